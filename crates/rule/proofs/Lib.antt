@@ -1,0 +1,7 @@
+pub mod Ring
+pub mod Parity
+pub mod Fuel
+pub mod Bound
+pub mod Whole
+pub mod Divisor
+pub mod Marked

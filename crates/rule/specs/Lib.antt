@@ -1,0 +1,9 @@
+pub mod Kind
+pub mod Rule
+pub mod Whole
+pub mod Divisor
+pub mod Admitted
+pub mod Refusal
+pub mod Admission
+pub mod Theorems
+pub mod Marked

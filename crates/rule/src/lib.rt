@@ -1,0 +1,5 @@
+pub mod command;
+pub mod fault;
+pub mod order;
+pub mod pair;
+pub mod theorems;

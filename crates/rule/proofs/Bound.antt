@@ -62,74 +62,79 @@ burns-by k Below laws n e s false false r x a b g d h z =
     let w = some-bit k Below laws (h .β) (s .b) z (h .below-b) in
     let l : h .α ≡ suc (w .0) = level (k .odd (s .a)) (h .α) (h .β) a (h .phase) ∙ w .1 in
     spent k Below n e (2 * (w .0 + w .0) + bit (k .odd (k .half (s .b)))) _ (omega (arith, w .1, l, h .fuel, bit-most (k .odd (k .half (s .b)))))
-      (record
-        { α = w .0;
-          β = w .0;
-          below-a = laws .half-below (w .0) (s .a) a (subst (λ (m : ℕ). Below m (s .a)) l (h .below-a));
-          below-b = laws .half-below (w .0) (s .b) b (subst (λ (m : ℕ). Below m (s .b)) (w .1) (h .below-b));
-          apart = omega (arith, ints, h .apart, l, w .1);
-          room-a = omega (arith, h .room-a, l);
-          room-b = omega (arith, h .room-b, w .1);
-          phase = inr refl;
-          fuel = omega arith })
+    (record {
+      α = w .0;
+      β = w .0;
+      below-a = laws .half-below (w .0) (s .a) a (subst (λ (m : ℕ). Below m (s .a)) l (h .below-a));
+      below-b = laws .half-below (w .0) (s .b) b (subst (λ (m : ℕ). Below m (s .b)) (w .1) (h .below-b));
+      apart = omega (arith, ints, h .apart, l, w .1);
+      room-a = omega (arith, h .room-a, l);
+      room-b = omega (arith, h .room-b, w .1);
+      phase = inr refl;
+      fuel = omega arith;
+    })
 burns-by k Below laws n e s false true r x a b g d h z =
     let w = some-bit k Below laws (h .β) (s .b) z (h .below-b) in
     let l : h .α ≡ suc (w .0) = level (k .odd (s .a)) (h .α) (h .β) a (h .phase) ∙ w .1 in
     spent k Below n e (2 * (h .β + w .0) + bit (k .odd (k .half (s .a)))) _ (omega (arith, w .1, l, h .fuel, ap bit b, bit-most (k .odd (k .half (s .a)))))
-      (record
-        { α = h .β;
-          β = w .0;
-          below-a = h .below-b;
-          below-b = laws .half-below (w .0) (s .a) a (subst (λ (m : ℕ). Below m (s .a)) l (h .below-a));
-          apart = omega (arith, ints, h .apart, l, w .1);
-          room-a = h .room-b;
-          room-b = omega (arith, h .room-a, l);
-          phase = inl b;
-          fuel = omega arith })
+    (record {
+      α = h .β;
+      β = w .0;
+      below-a = h .below-b;
+      below-b = laws .half-below (w .0) (s .a) a (subst (λ (m : ℕ). Below m (s .a)) l (h .below-a));
+      apart = omega (arith, ints, h .apart, l, w .1);
+      room-a = h .room-b;
+      room-b = omega (arith, h .room-a, l);
+      phase = inl b;
+      fuel = omega arith;
+    })
 burns-by k Below laws n e s true false r x a b g d h z =
     let w = some-bit k Below laws (h .β) (s .b) z (h .below-b) in
     spent k Below n e (2 * (h .α + w .0) + bit (k .odd (k .half (s .b)))) _ (omega (arith, w .1, h .fuel, ap bit b, bit-most (k .odd (k .half (s .b)))))
-      (record
-        { α = h .α;
-          β = w .0;
-          below-a = h .below-a;
-          below-b = laws .half-below (w .0) (s .b) b (subst (λ (m : ℕ). Below m (s .b)) (w .1) (h .below-b));
-          apart = omega (arith, ints, h .apart, w .1);
-          room-a = h .room-a;
-          room-b = omega (arith, h .room-b, w .1);
-          phase = inl a;
-          fuel = omega arith })
+    (record {
+      α = h .α;
+      β = w .0;
+      below-a = h .below-a;
+      below-b = laws .half-below (w .0) (s .b) b (subst (λ (m : ℕ). Below m (s .b)) (w .1) (h .below-b));
+      apart = omega (arith, ints, h .apart, w .1);
+      room-a = h .room-a;
+      room-b = omega (arith, h .room-b, w .1);
+      phase = inl a;
+      fuel = omega arith;
+    })
 burns-by k Below laws n e s true true r false a b g d h z =
     let o : h .α ≤ h .β = omega (arith, ints, h .apart) in
     let v = laws .joined-even (s .a) (s .b) a b in
     let c = laws .joined-below (h .β) (s .a) (s .b) a b (laws .below-more (h .α) (h .β) (s .a) o (h .below-a)) (h .below-b) in
     spent k Below n e (2 * (h .α + h .β)) _ (omega (arith, h .fuel, ap bit b))
-      (record
-        { α = h .α;
-          β = h .β;
-          below-a = h .below-a;
-          below-b = subst (λ q. Below (h .β) (k .half (summed k (signBy q) (s .a) (s .b)))) g c;
-          apart = omega (arith, ints, h .apart);
-          room-a = h .room-a;
-          room-b = h .room-b;
-          phase = inl a;
-          fuel = omega (arith, ap bit (subst (λ q. k .odd (k .half (summed k (signBy q) (s .a) (s .b))) ≡ false) g v)) })
+    (record {
+      α = h .α;
+      β = h .β;
+      below-a = h .below-a;
+      below-b = subst (λ q. Below (h .β) (k .half (summed k (signBy q) (s .a) (s .b)))) g c;
+      apart = omega (arith, ints, h .apart);
+      room-a = h .room-a;
+      room-b = h .room-b;
+      phase = inl a;
+      fuel = omega (arith, ap bit (subst (λ q. k .odd (k .half (summed k (signBy q) (s .a) (s .b))) ≡ false) g v));
+    })
 burns-by k Below laws n e s true true r true a b g d h z =
     let o : h .β ≤ h .α = omega (arith, ints, h .apart) in
     let g : k .fourfold (k .plus (s .b) (s .a)) ≡ r = ap (k .fourfold) (laws .plus-comm (s .b) (s .a)) ∙ g in
     let v = laws .joined-even (s .b) (s .a) b a in
     let c = laws .joined-below (h .α) (s .b) (s .a) b a (laws .below-more (h .β) (h .α) (s .b) o (h .below-b)) (h .below-a) in
     spent k Below n e (2 * (h .β + h .α)) _ (omega (arith, h .fuel, ap bit b))
-      (record
-        { α = h .β;
-          β = h .α;
-          below-a = h .below-b;
-          below-b = subst (λ q. Below (h .α) (k .half (summed k (signBy q) (s .b) (s .a)))) g c;
-          apart = omega (arith, ints, h .apart);
-          room-a = h .room-b;
-          room-b = h .room-a;
-          phase = inl b;
-          fuel = omega (arith, ap bit (subst (λ q. k .odd (k .half (summed k (signBy q) (s .b) (s .a))) ≡ false) g v)) })
+    (record {
+      α = h .β;
+      β = h .α;
+      below-a = h .below-b;
+      below-b = subst (λ q. Below (h .α) (k .half (summed k (signBy q) (s .b) (s .a)))) g c;
+      apart = omega (arith, ints, h .apart);
+      room-a = h .room-b;
+      room-b = h .room-a;
+      phase = inl b;
+      fuel = omega (arith, ap bit (subst (λ q. k .odd (k .half (summed k (signBy q) (s .b) (s .a))) ≡ false) g v));
+    })
 
 pub burns : {K : Type 0} (k : Kind K) (Below : ℕ → K → Type 0) → Laws k Below → (n : ℕ) → Burns k (Room k Below n)
 unfolding next command

@@ -55,21 +55,25 @@ shares-pair : (x y : ℤ) (s t : State ℤ) → t .twos ≡ s .twos
     → ((d : ℤ) → Divides d (t .a) → Divides d (t .b) → Divides d (s .a) × Divides d (s .b))
     → Shares x y s → Shares x y t
 shares-pair x y s t e f g h =
-    record
-      { down = λ d i j. rw e (let w = h .down d i j in f d (scale (s .twos)) (w .0) (w .1));
-        back = λ d i j. rw e (let w = g d i j in h .back d (w .0) (w .1)) }
+    record {
+      down = λ d i j. rw e (let w = h .down d i j in f d (scale (s .twos)) (w .0) (w .1));
+      back = λ d i j. rw e (let w = g d i j in h .back d (w .0) (w .1));
+    }
 
 -- a command that takes one two out of both
 shares-both : (x y : ℤ) (s t : State ℤ) → t .twos ≡ suc (s .twos) → s .a ≡ t .a +ℤ t .a → s .b ≡ t .b +ℤ t .b → Shares x y s → Shares x y t
 shares-both x y s t e p q h =
-    record
-      { down = λ d i j. rw (e, scale-suc) (let w = h .down d i j in (rw (moved (s .a) (t .a) p) at (w .0), rw (moved (s .b) (t .b) q) at (w .1)));
-        back = λ d i j. rw (e, scale-suc) (rw (← (moved (d +ℤ d) d refl)) (h .back (d +ℤ d) (doubled d (s .a) (t .a) p i) (doubled d (s .b) (t .b) q j))) }
+    record {
+      down = λ d i j. rw (e, scale-suc) (let w = h .down d i j in (rw (moved (s .a) (t .a) p) at (w .0), rw (moved (s .b) (t .b) q) at (w .1)));
+      back = λ d i j. rw (e, scale-suc) (rw (← (moved (d +ℤ d) d refl)) (h .back (d +ℤ d) (doubled d (s .a) (t .a) p i) (doubled d (s .b) (t .b) q j)));
+    }
   where
     scale-suc : scale (suc (s .twos)) ≡ scale (s .twos) +ℤ scale (s .twos)
     scale-suc = ap pos (omega arith)
+
     moved : (z h : ℤ) → z ≡ h +ℤ h → z *ℤ scale (s .twos) ≡ h *ℤ (scale (s .twos) +ℤ scale (s .twos))
     moved z h e = simp (e, out)
+
     doubled : (d z h : ℤ) → z ≡ h +ℤ h → Divides d h → Divides (d +ℤ d) z
     doubled d z h e k = record { quotient = k .quotient; exact = e ∙ simp (k .exact, out) }
 
@@ -77,12 +81,12 @@ shares-by : (x y : ℤ) (s : State ℤ) (p q r z : Bool) → odd (s .a) ≡ p �
 shares-by x y s false false r z e f g h = shares-both x y s _ refl (odd-no (s .a) e) (odd-no (s .b) f) h
 shares-by x y s false true r z e f g h =
     shares-pair x y s _ refl
-      (λ d m i j. (j, divides-half d m (s .b) (half (s .a)) (s .a) f (odd-no (s .a) e) j i))
-      (λ d i j. (divides-double d (s .a) (half (s .a)) (odd-no (s .a) e) j, i)) h
+    (λ d m i j. (j, divides-half d m (s .b) (half (s .a)) (s .a) f (odd-no (s .a) e) j i))
+    (λ d i j. (divides-double d (s .a) (half (s .a)) (odd-no (s .a) e) j, i)) h
 shares-by x y s true false r z e f g h =
     shares-pair x y s _ refl
-      (λ d m i j. (i, divides-half d m (s .a) (half (s .b)) (s .b) e (odd-no (s .b) f) i j))
-      (λ d i j. (i, divides-double d (s .b) (half (s .b)) (odd-no (s .b) f) j)) h
+    (λ d m i j. (i, divides-half d m (s .a) (half (s .b)) (s .b) e (odd-no (s .b) f) i j))
+    (λ d i j. (i, divides-double d (s .b) (half (s .b)) (odd-no (s .b) f) j)) h
 shares-by x y s true true r false e f g h =
     let w = joins (s .a) (s .b) r e f g .twice in
     shares-pair x y s _ refl (λ d m i j. (i, divides-joined d m _ _ _ r e w i j)) (λ d i j. (i, divides-other d _ _ _ r w i j)) h
@@ -122,12 +126,13 @@ at-end x y s n z h =
     let w = h .back (s .a) (record { quotient = pos 1; exact = sym (*ℤ-unit (s .a)) }) (record { quotient = pos 0; exact = z ∙ sym (*ℤ-zero (s .a)) }) in
     let u = divides-size (s .a) (2 ^ s .twos) x (w .0) in
     let v = divides-size (s .a) (2 ^ s .twos) y (w .1) in
-    record
-      { divides-x = u;
-        divides-y = v;
-        greatest = λ d i j.
+    record {
+      divides-x = u;
+      divides-y = v;
+      greatest = λ d i j.
           let c = size-divided (pos d) (s .a) (2 ^ s .twos) (h .down (pos d) i j .0) in
-          divides-most d (divisor s) (c .quotient) (c .exact) (divisor-some (divisor s) y (v .quotient) n (v .exact)) }
+          divides-most d (divisor s) (c .quotient) (c .exact) (divisor-some (divisor s) y (v .quotient) n (v .exact));
+    }
 
 pub divisor-greatest : Divisor-greatest
 divisor-greatest x y n m need = at-end x y (after whole m (start x y)) n (zero-yes _ (need .over)) (shares-after x y m (start x y) (shares-start x y))

@@ -64,6 +64,7 @@ running-more k s m h n j l = by (cases-lt j m l)
     cases-lt zero (suc m) l = inl (omega arith)
     cases-lt (suc j) zero l = absurd (omega arith)
     cases-lt (suc j) (suc m) l = elim (cases-lt j m (omega arith)) [ inl i ↦ inl (omega arith) | inr e ↦ inr (ap suc e) ]
+
     by : (j < m) ⊎ (m ≡ j) → k .isZero (after k j s .b) ≡ false
     by (inl i) = h j i
     by (inr e) = subst (λ (i : ℕ). k .isZero (after k i s .b) ≡ false) e n
@@ -115,10 +116,10 @@ pub ends-within : {K : Type 0} (k : Kind K) (Fits : ℕ → State K → Type 0) 
 ends-within k Fits burns zero s h =
     elim (cases-bool (k .isZero (s .b))) [ inl z ↦ ends-now k 0 s z | inr n ↦ absurd (omega (arith, burns 0 s h n .1)) ]
 ends-within k Fits burns (suc e) s h =
-    elim (cases-bool (k .isZero (s .b)))
-      [ inl z ↦ ends-now k (suc e) s z
+    elim (cases-bool (k .isZero (s .b))) [
+      | inl z ↦ ends-now k (suc e) s z
       | inr n ↦
           let w = burns (suc e) s h n in
           let l : w .0 ≡ e = omega (arith, w .1) in
           ends-later k e s n (ends-within k Fits burns e (next k s) (subst (λ (d : ℕ). Fits d (next k s)) l (w .2)))
-      ]
+    ]

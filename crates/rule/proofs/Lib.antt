@@ -5,3 +5,4 @@ pub mod Bound
 pub mod Whole
 pub mod Divisor
 pub mod Marked
+pub mod Reached

@@ -36,16 +36,37 @@ holds l h e c g = record { order = (grind (arith, tells), grind (arith, tells));
 
 pub marked-pairs : Marked-pairs
 unfolding odd half fourfold command next after told endsAt admits
-marked-pairs =
-    ( holds _ refl refl refl refl
-    , ( holds _ refl refl refl refl
-    , ( holds _ refl refl refl refl
-    , ( holds _ refl refl refl refl
-    , ( holds _ refl refl refl refl
-    , ( holds _ refl refl refl refl
-    , ( holds _ refl refl refl refl
-    , ( holds _ refl refl refl refl
-    , ( holds _ refl refl refl refl
-    , ( holds _ refl refl refl refl
-    , ( holds _ refl refl refl refl
-    , tt )))))))))))
+marked-pairs = (
+  holds _ refl refl refl refl,
+  (
+    holds _ refl refl refl refl,
+    (
+      holds _ refl refl refl refl,
+      (
+        holds _ refl refl refl refl,
+        (
+          holds _ refl refl refl refl,
+          (
+            holds _ refl refl refl refl,
+            (
+              holds _ refl refl refl refl,
+              (
+                holds _ refl refl refl refl,
+                (
+                  holds _ refl refl refl refl,
+                  (
+                    holds _ refl refl refl refl,
+                    (
+                      holds _ refl refl refl refl,
+                      tt,
+                    ),
+                  ),
+                ),
+              ),
+            ),
+          ),
+        ),
+      ),
+    ),
+  ),
+)

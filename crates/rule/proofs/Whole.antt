@@ -31,13 +31,14 @@ joined-small x y m false H e h i = omega (arith, ints)
 
 pub whole-lawful : Whole-lawful
 whole-lawful =
-    record
-      { below-none = λ x h. eq-eqb (natAbs x) 0 (omega arith);
-        below-more = λ m n x l h. let p = pow-mono l in omega (arith, p);
-        half-below = λ m x e h. let w = odd-no x e in omega (arith, ints, w);
-        plus-comm = +ℤ-comm;
-        joined-even = λ x y o p. joins x y (fourfold (x +ℤ y)) o p refl .even;
-        joined-below = λ m x y o p h i. joined-small x y _ (fourfold (x +ℤ y)) (2 ^ m) (joins x y (fourfold (x +ℤ y)) o p refl .twice) h i }
+    record {
+      below-none = λ x h. eq-eqb (natAbs x) 0 (omega arith);
+      below-more = λ m n x l h. let p = pow-mono l in omega (arith, p);
+      half-below = λ m x e h. let w = odd-no x e in omega (arith, ints, w);
+      plus-comm = +ℤ-comm;
+      joined-even = λ x y o p. joins x y (fourfold (x +ℤ y)) o p refl .even;
+      joined-below = λ m x y o p h i. joined-small x y _ (fourfold (x +ℤ y)) (2 ^ m) (joins x y (fourfold (x +ℤ y)) o p refl .twice) h i;
+    }
 
 -- ---- only even numbers are halved
 exact-by : (s : State ℤ) (p q r x : Bool) → odd (s .a) ≡ p → odd (s .b) ≡ q → fourfold (s .a +ℤ s .b) ≡ r → Exact (commandBy p q r x) s (obeyed whole (commandBy p q r x) s)
@@ -64,13 +65,14 @@ scaled-small x α t n h l =
 
 narrow-by : (n d : ℕ) (s : State ℤ) → Room whole Below n d s → s .count ≤ 4 * n + 1 → Narrow n s
 narrow-by n d s r c =
-    record
-      { a = whole-lawful .below-more (r .α) n (s .a) (omega (arith, r .room-a)) (r .below-a);
-        b = whole-lawful .below-more (r .β) n (s .b) (omega (arith, r .room-b)) (r .below-b);
-        δ = omega (arith, ints, r .apart, r .room-a, r .room-b);
-        twos = omega (arith, r .room-a);
-        count = c;
-        divisor = scaled-small (natAbs (s .a)) (r .α) (s .twos) n (r .below-a) (r .room-a) }
+    record {
+      a = whole-lawful .below-more (r .α) n (s .a) (omega (arith, r .room-a)) (r .below-a);
+      b = whole-lawful .below-more (r .β) n (s .b) (omega (arith, r .room-b)) (r .below-b);
+      δ = omega (arith, ints, r .apart, r .room-a, r .room-b);
+      twos = omega (arith, r .room-a);
+      count = c;
+      divisor = scaled-small (natAbs (s .a)) (r .α) (s .twos) n (r .below-a) (r .room-a);
+    }
 
 -- a run that has not met its end before its m-th command is narrow there
 pub running-narrow : (n : ℕ) (x y : ℤ) → Below n x → Below n y → (m : ℕ) → Running whole (start x y) m → Narrow n (after whole m (start x y))

@@ -3,6 +3,8 @@ pub mod Rule
 pub mod Whole
 pub mod Divisor
 pub mod Admitted
+pub mod Reached
+pub mod Letters
 pub mod Refusal
 pub mod Admission
 pub mod Theorems

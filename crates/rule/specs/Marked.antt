@@ -28,8 +28,10 @@ line n a b cs g = record { order = n; a = a; b = b; commands = cs; g = g }
 -- the plus-minus commands in their published letters
 abbrev P : Command
 P = PlusMinus Plus false
+
 abbrev XP : Command
 XP = PlusMinus Plus true
+
 abbrev XM : Command
 XM = PlusMinus Minus true
 

@@ -1,6 +1,7 @@
 // A refusal: why, by which layer, and at which place (docs/REFUSALS.md).
 ghost use mathlib.Core.Path.{_≡_};
-ghost use Rattle.rule.specs.Refusal.{number};
+ghost use Rattle.rule.specs.Refusal.{number, fault};
+use std::fmt;
 
 #[derive(Clone, Copy, PartialEq, Eq, Debug)]
 pub enum Layer {
@@ -36,6 +37,18 @@ pub struct Fault {
     pub place: usize,
 }
 
+impl Fault {
+    pub fn new(reason: Reason, layer: Layer, place: usize) -> Fault
+        ensures { λ r. ⌜ r ≡ fault reason layer place ⌝ }
+    {
+        Fault {
+            reason,
+            layer,
+            place,
+        }
+    }
+}
+
 impl Reason {
     // The number that stands for this reason in every table and on every line that a program prints.
     pub fn number(self) -> u8
@@ -58,5 +71,32 @@ impl Reason {
             Reason::OrderAboveLargest => 25,
             Reason::CommandNotTaken => 26,
         }
+    }
+
+    // Why, in a plain sentence.
+    fn sentence(self) -> &'static str {
+        match self {
+            Reason::FrameTooShort => "the frame has fewer than 5 bytes",
+            Reason::LengthDiffers => "the length does not match the bytes that follow it",
+            Reason::WrongVersion => "the version is not 1",
+            Reason::OrderOutOfRange => "the order is not from 1 to 56",
+            Reason::OperandsDoNotFill => "the operands do not fill their bytes exactly",
+            Reason::OperandTooLarge => "an operand is too large for the order",
+            Reason::DenominatorZero => "b is 0",
+            Reason::BudgetOutOfRange => "the stint or the budget is out of range",
+            Reason::BufferTooShort => "the buffer is shorter than the result frame",
+            Reason::PairHeld => "a pair is held already",
+            Reason::NothingHeld => "no pair is held",
+            Reason::RunNotOver => "the run is not over",
+            Reason::RunOver => "the run is over",
+            Reason::OrderAboveLargest => "the order is above the largest that the engine takes",
+            Reason::CommandNotTaken => "a follower does not take the command",
+        }
+    }
+}
+
+pub impl fmt::Display for Reason as ReasonDisplay {
+    fn fmt<W: fmt::Write>(&self, f: &mut fmt::Formatter<W>) -> fmt::Result {
+        f.pad(self.sentence())
     }
 }

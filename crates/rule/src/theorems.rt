@@ -5,35 +5,29 @@ ghost use Rattle.rule.specs.Theorems.{Whole-lawful, Halvings-exact, Need-bound
 // Whole numbers keep the laws of parity, halving, sums and size that the bound rests on.
 pub fn whole_numbers_are_lawful()
     ensures { λ _. ⌜ Whole-lawful ⌝ }
-{
-}
+{}
 
 // Only even numbers are halved.
 pub fn halvings_are_exact()
     ensures { λ _. ⌜ Halvings-exact ⌝ }
-{
-}
+{}
 
 // The need exists and is at most 4n + 1.
 pub fn need_is_bounded()
     ensures { λ _. ⌜ Need-bounded ⌝ }
-{
-}
+{}
 
 // Along a run of order n every number of the state stays within its width.
 pub fn runs_are_narrow()
     ensures { λ _. ⌜ Run-narrow ⌝ }
-{
-}
+{}
 
 // At the end |a| times 2^twos is the greatest common divisor.
 pub fn divisor_is_greatest()
     ensures { λ _. ⌜ Divisor-greatest ⌝ }
-{
-}
+{}
 
 // The marked pairs: their commands, their needs and their greatest common divisors.
 pub fn marked_pairs_hold()
     ensures { λ _. ⌜ Marked-pairs ⌝ }
-{
-}
+{}

@@ -14,8 +14,8 @@ impl Order {
     pub fn new(n: i64) -> Result<Order, Fault>
         ensures { λ r. ⌜ AdmitsOrder n r ⌝ }
     {
-        if n < 1 || n > 56 {
-            return Err(Fault { reason: Reason::OrderOutOfRange, layer: Layer::Frame, place: 3 });
+        if n < 1 || n > i64::from(Order::MAX) {
+            return Err(Fault::new(Reason::OrderOutOfRange, Layer::Frame, 3));
         }
         Ok(Order { value: n as u16 })
     }

@@ -15,13 +15,13 @@ impl AdmittedPair {
         let limit = 1u64 << order.value();
         let at_b = 5 + order.width();
         if a.unsigned_abs() >= limit {
-            return Err(Fault { reason: Reason::OperandTooLarge, layer: Layer::Frame, place: 5 });
+            return Err(Fault::new(Reason::OperandTooLarge, Layer::Frame, 5));
         }
         if b.unsigned_abs() >= limit {
-            return Err(Fault { reason: Reason::OperandTooLarge, layer: Layer::Frame, place: at_b });
+            return Err(Fault::new(Reason::OperandTooLarge, Layer::Frame, at_b));
         }
         if b == 0 {
-            return Err(Fault { reason: Reason::DenominatorZero, layer: Layer::Frame, place: at_b });
+            return Err(Fault::new(Reason::DenominatorZero, Layer::Frame, at_b));
         }
         Ok(AdmittedPair { order, a, b })
     }

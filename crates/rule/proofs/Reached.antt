@@ -1,0 +1,40 @@
+-- A run goes from reached state to reached state, and all of them are narrow.
+use Prim.Native.Nat.{ℕ, suc, _<_, _≤_}
+use mathlib.Core.Path.{_≡_, refl, sym, ap, _∙_, subst}
+use mathlib.Core.Bool.{Bool, true, false}
+use mathlib.Core.Logic.{∥∥₁-elim, ∥∥₁-map}
+use native.Mathlib.Omega.{arith}
+use native.Mathlib.Bridge.{le-prop}
+use lib.IntN.{ℤ}
+use Rattle.rule.specs.Rule.{State, start, next, after}
+use Rattle.rule.specs.Whole.{isZero, whole, Below}
+use Rattle.rule.specs.Admitted.{OperandsAdmitted}
+use Rattle.rule.specs.Theorems.{Narrow}
+use Rattle.rule.specs.Reached.{Reached}
+use Rattle.rule.proofs.Fuel.{after-more, count-next, running-more}
+use Rattle.rule.proofs.Whole.{running-narrow}
+
+pub reached-start : (n : ℕ) (x y : ℤ) → OperandsAdmitted n x y → Reached n (start x y)
+unfolding after
+reached-start n x y h = record { x = x; y = y; operands = h; here = refl; running = λ j l. absurd (omega arith) }
+
+pub reached-next : (n : ℕ) (s : State ℤ) → isZero (s .b) ≡ false → Reached n s → Reached n (next whole s)
+reached-next n s z r =
+    record {
+      x = r .x;
+      y = r .y;
+      operands = r .operands;
+      here = ap (λ (m : ℕ). after whole m (start (r .x) (r .y))) (count-next whole s) ∙ after-more whole (s .count) (start (r .x) (r .y)) ∙ ap (next whole) (r .here);
+      running = subst (λ (m : ℕ). (j : ℕ) → j < m → isZero (after whole j (start (r .x) (r .y)) .b) ≡ false) (sym (count-next whole s))
+          (running-more whole (start (r .x) (r .y)) (s .count) (r .running) (ap (λ t. isZero (t .b)) (r .here) ∙ z));
+    }
+
+reached-narrow : (n : ℕ) (s : State ℤ) → Reached n s → Narrow n s
+reached-narrow n s r = subst (Narrow n) (r .here) (running-narrow n (r .x) (r .y) (r .operands .0) (r .operands .1) (s .count) (r .running))
+
+narrow-prop : (n : ℕ) (s : State ℤ) (p q : Narrow n s) → p ≡ q
+narrow-prop n s p q = λ i. record { a = le-prop (p .a) (q .a) i; b = le-prop (p .b) (q .b) i; δ = le-prop (p .δ) (q .δ) i; twos = le-prop (p .twos) (q .twos) i; count = le-prop (p .count) (q .count) i; divisor = le-prop (p .divisor) (q .divisor) i }
+
+-- of a state that is only known to have been reached somehow
+pub narrow-there : (n : ℕ) (s : State ℤ) → ∥ Reached n s ∥₁ → Narrow n s
+narrow-there n s r = ∥∥₁-elim r (narrow-prop n s) (reached-narrow n s)

@@ -1,12 +1,13 @@
 -- A run goes from reached state to reached state, and all of them are narrow.
-use Prim.Native.Nat.{ℕ, suc, _<_, _≤_}
+use Prim.Native.Nat.{ℕ, suc, _^_, _<_, _≤_}
 use mathlib.Core.Path.{_≡_, refl, sym, ap, _∙_, subst}
 use mathlib.Core.Bool.{Bool, true, false}
 use mathlib.Core.Logic.{∥∥₁-elim, ∥∥₁-map}
 use native.Mathlib.Omega.{arith}
 use native.Mathlib.Bridge.{le-prop}
+use lib.Pow.{pow-mono}
 use lib.IntN.{ℤ}
-use Rattle.rule.specs.Rule.{State, start, next, after}
+use Rattle.rule.specs.Rule.{State, start, exchanged, next, after}
 use Rattle.rule.specs.Whole.{isZero, whole, Below}
 use Rattle.rule.specs.Admitted.{OperandsAdmitted}
 use Rattle.rule.specs.Theorems.{Narrow}
@@ -33,8 +34,20 @@ reached-narrow : (n : ℕ) (s : State ℤ) → Reached n s → Narrow n s
 reached-narrow n s r = subst (Narrow n) (r .here) (running-narrow n (r .x) (r .y) (r .operands .0) (r .operands .1) (s .count) (r .running))
 
 narrow-prop : (n : ℕ) (s : State ℤ) (p q : Narrow n s) → p ≡ q
-narrow-prop n s p q = λ i. record { a = le-prop (p .a) (q .a) i; b = le-prop (p .b) (q .b) i; δ = le-prop (p .δ) (q .δ) i; twos = le-prop (p .twos) (q .twos) i; count = le-prop (p .count) (q .count) i; divisor = le-prop (p .divisor) (q .divisor) i }
+narrow-prop n s p q = λ i. record { a = le-prop (p .a) (q .a) i; b = le-prop (p .b) (q .b) i; δ = le-prop (p .δ) (q .δ) i; twos = le-prop (p .twos) (q .twos) i; count = le-prop (p .count) (q .count) i }
 
 -- of a state that is only known to have been reached somehow
 pub narrow-there : (n : ℕ) (s : State ℤ) → ∥ Reached n s ∥₁ → Narrow n s
 narrow-there n s r = ∥∥₁-elim r (narrow-prop n s) (reached-narrow n s)
+
+narrow-more : (m n : ℕ) (s : State ℤ) → m ≤ n → Narrow m s → Narrow n s
+narrow-more m n s l h =
+    let p : 2 ^ m ≤ 2 ^ n = pow-mono l in
+    record { a = omega (arith, h .a, p); b = omega (arith, h .b, p); δ = omega (arith, h .δ); twos = omega (arith, h .twos); count = omega (arith, h .count) }
+
+pub narrow-word : (n : ℕ) (s : State ℤ) → n ≤ 56 → ∥ Reached n s ∥₁ → Narrow 56 s
+narrow-word n s l r = narrow-more n 56 s l (narrow-there n s r)
+
+pub narrow-exchanged : (n : ℕ) (x : Bool) (s : State ℤ) → Narrow n s → Narrow n (exchanged x s)
+narrow-exchanged n false s h = h
+narrow-exchanged n true s h = record { a = h .b; b = h .a; δ = h .δ; twos = h .twos; count = h .count }

@@ -3,16 +3,14 @@ use Prim.Native.Nat.{ℕ, zero, suc, _+_, _*_, _^_, _<_, _≤_}
 use mathlib.Core.Path.{_≡_, refl, sym, ap, _∙_}
 use mathlib.Core.Bool.{Bool, true, false}
 use native.Mathlib.Omega.{arith}
-use native.Mathlib.Nat.{mul-le-mul-right}
 use lib.IntN.{ℤ, pos, _+ℤ_, _-ℤ_, natAbs, +ℤ-comm}
-use lib.Pow.{pow-mono, pow-add, pow-pos}
+use lib.Pow.{pow-mono}
 use lib.Signed.{leZ}
 use Rattle.std.proofs.shelf.Signed.{ints}
 use Rattle.std.proofs.shelf.Tests.{eqb-true, eqb-false, eq-eqb}
 use Rattle.rule.specs.Kind.{Laws, signBy, summed}
 use Rattle.rule.specs.Rule.{State, start, commandBy, command, obeyed, next, after, Need}
 use Rattle.rule.specs.Whole.{isZero, odd, half, fourfold, whole, Below, Exact}
-use Rattle.rule.specs.Divisor.{divisor}
 use Rattle.rule.specs.Theorems.{Whole-lawful, Halvings-exact, Need-bounded, Narrow, Run-narrow}
 use Rattle.rule.proofs.Parity.{odd-no, Joins, joins}
 use Rattle.rule.proofs.Fuel.{Running, count-after}
@@ -56,13 +54,6 @@ halvings-exact s = exact-by s (odd (s .a)) (odd (s .b)) (fourfold (s .a +ℤ s .
 pub need-bounded : Need-bounded
 need-bounded = need-within whole Below whole-lawful
 
--- a number below 2^α, times 2^t, is below 2^n
-scaled-small : (x α t n : ℕ) → x < 2 ^ α → α + t ≤ n → x * 2 ^ t < 2 ^ n
-scaled-small x α t n h l =
-    let p = pow-add 2 α t in
-    let q : 2 ^ (α + t) ≤ 2 ^ n = pow-mono l in
-    omega (arith, p, q, pow-pos t, mul-le-mul-right {m = suc x} {n = 2 ^ α} (2 ^ t) h)
-
 narrow-by : (n d : ℕ) (s : State ℤ) → Room whole Below n d s → s .count ≤ 4 * n + 1 → Narrow n s
 narrow-by n d s r c =
     record {
@@ -70,9 +61,7 @@ narrow-by n d s r c =
       b = whole-lawful .below-more (r .β) n (s .b) (omega (arith, r .room-b)) (r .below-b);
       δ = omega (arith, ints, r .apart, r .room-a, r .room-b);
       twos = omega (arith, r .room-a);
-      count = c;
-      divisor = scaled-small (natAbs (s .a)) (r .α) (s .twos) n (r .below-a) (r .room-a);
-    }
+      count = c }
 
 -- a run that has not met its end before its m-th command is narrow there
 pub running-narrow : (n : ℕ) (x y : ℤ) → Below n x → Below n y → (m : ℕ) → Running whole (start x y) m → Narrow n (after whole m (start x y))

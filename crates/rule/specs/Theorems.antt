@@ -1,5 +1,5 @@
 -- What is shown of the rule over whole numbers.
-use Prim.Native.Nat.{ℕ, _+_, _*_, _^_, _<_, _≤_}
+use Prim.Native.Nat.{ℕ, _+_, _*_, _≤_}
 use mathlib.Core.Path.{_≡_}
 use lib.IntN.{ℤ, pos, natAbs}
 use Rattle.rule.specs.Kind.{Laws}
@@ -26,7 +26,6 @@ pub record Narrow (n : ℕ) (s : State ℤ) : Type 0 where
   pub δ : natAbs (s .δ) ≤ n
   pub twos : s .twos ≤ n
   pub count : s .count ≤ 4 * n + 1
-  pub divisor : divisor s < 2 ^ n
 
 -- Every state of a run, up to its end, is narrow.
 abbrev pub Run-narrow : Type 0

@@ -1,0 +1,7 @@
+use borrow.Author.Needs.{needs}
+use Rattle.rule.specs.Whole.{half}
+use Rattle.engine.proofs.registers.halved.Needs as need
+
+pub returns : need.returns
+unfolding half
+returns c = search needs

@@ -1,0 +1,7 @@
+use borrow.Author.Needs.{needs}
+use Rattle.rule.specs.Whole.{odd}
+use Rattle.engine.proofs.registers.is_odd.Needs as need
+
+pub returns : need.returns
+unfolding odd
+returns c = search needs

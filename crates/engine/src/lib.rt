@@ -1,0 +1,3 @@
+pub mod engine;
+mod registers;
+pub mod word;

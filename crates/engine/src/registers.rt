@@ -1,0 +1,133 @@
+// The numbers of the rule in machine words, and one command done to them.
+ghost use mathlib.Core.Path.{_≡_};
+ghost use Prim.Native.Nat.{_^_, _<_};
+ghost use lib.IntN.{natAbs, _+ℤ_, _-ℤ_};
+ghost use Rattle.rule.specs.Kind.{signBy, summed};
+ghost use Rattle.rule.specs.Rule.{command, exchanged, combined, obeyed};
+ghost use Rattle.rule.specs.Theorems.{Narrow};
+ghost use Rattle.rule.specs.Whole.{odd, half, fourfold, whole};
+ghost use Rattle.engine.specs.Words.{stateOf};
+use rule::command::Command;
+use rule::command::Sign;
+
+#[derive(Clone, Copy)]
+pub struct Registers {
+    pub a: i64,
+    pub b: i64,
+    pub delta: i16,
+    pub twos: u16,
+    pub count: u16,
+}
+
+fn is_odd(z: i64) -> bool
+    ensures { λ r. ⌜ r ≡ odd z ⌝ }
+{
+    z % 2 != 0
+}
+
+fn halved(z: i64) -> i64
+    ensures { λ r. ⌜ r ≡ half z ⌝ }
+{
+    z >> 1
+}
+
+fn is_fourfold(z: i64) -> bool
+    ensures { λ r. ⌜ r ≡ fourfold z ⌝ }
+{
+    z % 4 == 0
+}
+
+// Plus where 4 divides a + b, else minus.
+fn sign_of(a: i64, b: i64) -> Sign
+    requires { ⌜ natAbs a < 2 ^ 56 ⌝ ∗ ⌜ natAbs b < 2 ^ 56 ⌝ }
+    ensures { λ r. ⌜ r ≡ signBy (fourfold (a +ℤ b)) ⌝ }
+{
+    if is_fourfold(a + b) {
+        Sign::Plus
+    } else {
+        Sign::Minus
+    }
+}
+
+// Half of a + b or of a - b.
+fn joined(sign: Sign, a: i64, b: i64) -> i64
+    requires { ⌜ natAbs a < 2 ^ 56 ⌝ ∗ ⌜ natAbs b < 2 ^ 56 ⌝ }
+    ensures { λ r. ⌜ r ≡ half (summed whole sign a b) ⌝ }
+{
+    match sign {
+        Sign::Plus => halved(a + b),
+        Sign::Minus => halved(a - b),
+    }
+}
+
+impl Registers {
+    // The command that the low bits of a and b and δ fix.
+    pub(crate) fn command(self) -> Command
+        requires { ⌜ Narrow 56 (stateOf self) ⌝ }
+        ensures { λ r. ⌜ r ≡ command whole (stateOf self) ⌝ }
+    {
+        match (is_odd(self.a), is_odd(self.b)) {
+            (false, false) => Command::Both,
+            (false, true) => Command::Cross,
+            (true, false) => Command::Shift,
+            (true, true) => Command::PlusMinus {
+                sign: sign_of(self.a, self.b),
+                exchange: self.delta >= 0,
+            },
+        }
+    }
+
+    // a and b change places where the mark is set.
+    fn exchanged(self, exchange: bool) -> Registers
+        ensures { λ r. ⌜ stateOf r ≡ exchanged exchange (stateOf self) ⌝ }
+    {
+        if exchange {
+            Registers { a: self.b, b: self.a, ..self }
+        } else {
+            self
+        }
+    }
+
+    // b becomes half of a + b or of a - b, and δ becomes -|δ|.
+    fn combined(self, sign: Sign) -> Registers
+        requires { ⌜ Narrow 56 (stateOf self) ⌝ }
+        ensures { λ r. ⌜ stateOf r ≡ combined whole sign (stateOf self) ⌝ }
+    {
+        Registers {
+            b: joined(sign, self.a, self.b),
+            delta: -self.delta.abs(),
+            count: self.count + 1,
+            ..self
+        }
+    }
+
+    // The registers once a command is done.
+    pub(crate) fn obeyed(self, command: Command) -> Registers
+        requires { ⌜ Narrow 56 (stateOf self) ⌝ }
+        ensures { λ r. ⌜ stateOf r ≡ obeyed whole command (stateOf self) ⌝ }
+    {
+        match command {
+            Command::Both => Registers {
+                a: halved(self.a),
+                b: halved(self.b),
+                twos: self.twos + 1,
+                count: self.count + 1,
+                ..self
+            },
+            Command::Cross => Registers {
+                a: self.b,
+                b: halved(self.a),
+                delta: 1 - self.delta,
+                count: self.count + 1,
+                ..self
+            },
+            Command::Shift => Registers {
+                b: halved(self.b),
+                delta: self.delta + 1,
+                count: self.count + 1,
+                ..self
+            },
+            Command::PlusMinus { sign, exchange } => self.exchanged(exchange).combined(sign),
+        }
+    }
+}

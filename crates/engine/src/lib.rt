@@ -1,3 +1,4 @@
 pub mod engine;
 mod registers;
+pub mod run;
 pub mod word;

@@ -82,7 +82,11 @@ impl Registers {
         ensures { λ r. ⌜ stateOf r ≡ exchanged exchange (stateOf self) ⌝ }
     {
         if exchange {
-            Registers { a: self.b, b: self.a, ..self }
+            Registers {
+                a: self.b,
+                b: self.a,
+                ..self
+            }
         } else {
             self
         }

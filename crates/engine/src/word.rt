@@ -19,5 +19,4 @@ pub struct WordEngine {
 
 mod calls;
 
-
 pub use calls::WordAsEngine;

@@ -136,3 +136,12 @@ at-end x y s n z h =
 
 pub divisor-greatest : Divisor-greatest
 divisor-greatest x y n m need = at-end x y (after whole m (start x y)) n (zero-yes _ (need .over)) (shares-after x y m (start x y) (shares-start x y))
+
+-- a common divisor is no larger than a number other than 0 that it divides
+pub greatest-most : (g : ℕ) (x y : ℤ) → (y ≡ pos 0 → ⊥) → Greatest g x y → g ≤ natAbs y
+greatest-most g x y n h = by (h .divides-y .quotient) (h .divides-y .exact)
+  where
+    by : (q : ℤ) → y ≡ pos g *ℤ q → g ≤ natAbs y
+    by (pos zero) e = absurd (n (e ∙ *ℤ-zero (pos g)))
+    by (pos (suc q)) e = omega (arith, ints, e)
+    by (negsuc q) e = omega (arith, ints, e)

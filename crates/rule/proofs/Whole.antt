@@ -61,7 +61,8 @@ narrow-by n d s r c =
       b = whole-lawful .below-more (r .β) n (s .b) (omega (arith, r .room-b)) (r .below-b);
       δ = omega (arith, ints, r .apart, r .room-a, r .room-b);
       twos = omega (arith, r .room-a);
-      count = c }
+      count = c;
+    }
 
 -- a run that has not met its end before its m-th command is narrow there
 pub running-narrow : (n : ℕ) (x y : ℤ) → Below n x → Below n y → (m : ℕ) → Running whole (start x y) m → Narrow n (after whole m (start x y))

@@ -27,7 +27,13 @@ impl Held {
     {
         let command = self.registers.command();
         let registers = self.registers.obeyed(command);
-        (command, Held { order: self.order, registers })
+        (
+            command,
+            Held {
+                order: self.order,
+                registers,
+            },
+        )
     }
 }
 

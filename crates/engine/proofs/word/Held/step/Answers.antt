@@ -20,7 +20,8 @@ ghost-result c =
 
 pub returns : need.returns
 returns c =
-    record
-      { command = c .command-command .ensures;
-        order = refl;
-        state = obeyed-next (c .args .self .registers) (c .obeyed-registers .result) (c .command-command .result) (c .command-command .ensures) (c .obeyed-registers .ensures) }
+    record {
+      command = c .command-command .ensures;
+      order = refl;
+      state = obeyed-next (c .args .self .registers) (c .obeyed-registers .result) (c .command-command .result) (c .command-command .ensures) (c .obeyed-registers .ensures);
+    }

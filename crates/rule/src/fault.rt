@@ -49,6 +49,17 @@ impl Fault {
     }
 }
 
+impl Layer {
+    fn name(self) -> &'static str {
+        match self {
+            Layer::Frame => "frame",
+            Layer::Engine => "engine",
+            Layer::Follower => "follower",
+            Layer::Unit => "unit",
+        }
+    }
+}
+
 impl Reason {
     // The number that stands for this reason in every table and on every line that a program prints.
     pub fn number(self) -> u8
@@ -98,5 +109,26 @@ impl Reason {
 pub impl fmt::Display for Reason as ReasonDisplay {
     fn fmt<W: fmt::Write>(&self, f: &mut fmt::Formatter<W>) -> fmt::Result {
         f.pad(self.sentence())
+    }
+}
+
+pub impl fmt::Display for Layer as LayerDisplay {
+    fn fmt<W: fmt::Write>(&self, f: &mut fmt::Formatter<W>) -> fmt::Result {
+        f.pad(self.name())
+    }
+}
+
+// The line that programs print: the number, the layer, the place where one is named, and the sentence.
+pub impl fmt::Display for Fault as FaultDisplay {
+    fn fmt<W: fmt::Write>(&self, f: &mut fmt::Formatter<W>) -> fmt::Result {
+        let number = self.reason.number();
+        let layer = self.layer;
+        let place = self.place;
+        let reason = self.reason;
+        write!(f, "refused {number} by the {layer}")?;
+        if layer == Layer::Frame || place != 0 {
+            write!(f, " at place {place}")?;
+        }
+        write!(f, ": {reason}")
     }
 }

@@ -1,9 +1,10 @@
 // The numbers of the rule in machine words, and one command done to them.
 ghost use mathlib.Core.Path.{_≡_};
 ghost use Prim.Native.Nat.{_^_, _<_};
-ghost use lib.IntN.{natAbs, _+ℤ_, _-ℤ_};
-ghost use Rattle.rule.specs.Kind.{signBy, summed};
-ghost use Rattle.rule.specs.Rule.{command, exchanged, combined, obeyed};
+ghost use lib.IntN.{natAbs, pos};
+ghost use lib.Signed.{leZ};
+ghost use Rattle.rule.specs.Kind.{summed};
+ghost use Rattle.rule.specs.Rule.{commandBy, command, exchanged, combined, obeyed};
 ghost use Rattle.rule.specs.Theorems.{Narrow};
 ghost use Rattle.rule.specs.Whole.{odd, half, fourfold, whole};
 ghost use Rattle.engine.specs.Words.{stateOf};
@@ -37,15 +38,24 @@ fn is_fourfold(z: i64) -> bool
     z % 4 == 0
 }
 
-// Plus where 4 divides a + b, else minus.
-fn sign_of(a: i64, b: i64) -> Sign
-    requires { ⌜ natAbs a < 2 ^ 56 ⌝ ∗ ⌜ natAbs b < 2 ^ 56 ⌝ }
-    ensures { λ r. ⌜ r ≡ signBy (fourfold (a +ℤ b)) ⌝ }
+fn is_at_least_zero(delta: i16) -> bool
+    ensures { λ r. ⌜ r ≡ leZ (pos 0) delta ⌝ }
 {
-    if is_fourfold(a + b) {
-        Sign::Plus
-    } else {
-        Sign::Minus
+    delta >= 0
+}
+
+// The command by four tests: a is odd, b is odd, 4 divides a + b, δ is at least 0.
+fn command_by(odd_a: bool, odd_b: bool, fourfold: bool, exchange: bool) -> Command
+    ensures { λ r. ⌜ r ≡ commandBy «odd_a» «odd_b» fourfold exchange ⌝ }
+{
+    match (odd_a, odd_b) {
+        (false, false) => Command::Both,
+        (false, true) => Command::Cross,
+        (true, false) => Command::Shift,
+        (true, true) => Command::PlusMinus {
+            sign: if fourfold { Sign::Plus } else { Sign::Minus },
+            exchange,
+        },
     }
 }
 
@@ -66,15 +76,12 @@ impl Registers {
         requires { ⌜ Narrow 56 (stateOf self) ⌝ }
         ensures { λ r. ⌜ r ≡ command whole (stateOf self) ⌝ }
     {
-        match (is_odd(self.a), is_odd(self.b)) {
-            (false, false) => Command::Both,
-            (false, true) => Command::Cross,
-            (true, false) => Command::Shift,
-            (true, true) => Command::PlusMinus {
-                sign: sign_of(self.a, self.b),
-                exchange: self.delta >= 0,
-            },
-        }
+        command_by(
+            is_odd(self.a),
+            is_odd(self.b),
+            is_fourfold(self.a + self.b),
+            is_at_least_zero(self.delta),
+        )
     }
 
     // a and b change places where the mark is set.

@@ -11,19 +11,20 @@ use rule::fault::Fault;
 use rule::fault::FaultDisplay;
 use rule::order::Order;
 use rule::pair::AdmittedPair;
+use std::alloc::Global;
 use std::env;
 use std::error::AnyError;
 
 const USAGE: &str = "usage: trace ORDER A B";
 
 // The whole number that a word spells.
-fn number(word: Option<String>) -> Result<i64, AnyError> {
+fn number(heap: Global, word: Option<String>) -> Result<i64, AnyError> {
     let Some(word) = word else {
         return Err(USAGE.into());
     };
     match word.parse::<i64>() {
         Ok(n) => Ok(n),
-        Err(_) => Err("ORDER, A and B are whole numbers of at most 64 bits".into()),
+        Err(_) => Err(format!(heap, "'{word}' is not a whole number of at most 64 bits")?.into()),
     }
 }
 
@@ -52,10 +53,11 @@ fn trace(rt: &LibcRuntime, order: i64, a: i64, b: i64) -> Result<(), AnyError> {
 }
 
 fn run(rt: &LibcRuntime) -> Result<(), AnyError> {
+    let heap = rt.alloc();
     let mut words = env::args(rt)?.skip(1);
-    let order = number(words.next())?;
-    let a = number(words.next())?;
-    let b = number(words.next())?;
+    let order = number(heap, words.next())?;
+    let a = number(heap, words.next())?;
+    let b = number(heap, words.next())?;
     if words.next().is_some() {
         return Err(USAGE.into());
     }

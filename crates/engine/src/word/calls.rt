@@ -3,7 +3,7 @@ ghost use mathlib.Core.Bool.{false};
 ghost use mathlib.Core.Path.{_≡_};
 ghost use Rattle.rule.specs.Rule.{command, next};
 ghost use Rattle.rule.specs.Whole.{isZero, whole};
-ghost use Rattle.engine.specs.Meaning.{idle};
+ghost use Rattle.engine.specs.Meaning.{idle, startOf};
 ghost use Rattle.engine.specs.WordMeaning.{wordMeaning};
 ghost use Rattle.engine.specs.Words.{stateOf};
 use super::Held;
@@ -18,6 +18,23 @@ use rule::order::Order;
 use rule::pair::AdmittedPair;
 
 impl Held {
+    // The start of the run of a pair.
+    fn start(pair: AdmittedPair) -> Held
+        ensures order { λ r. ⌜ r .order ≡ pair .order ⌝ }
+        ensures state { λ r. ⌜ stateOf (r .registers) ≡ startOf pair ⌝ }
+    {
+        Held {
+            order: pair.order(),
+            registers: Registers {
+                a: pair.a(),
+                b: pair.b(),
+                delta: 0,
+                twos: 0,
+                count: 0,
+            },
+        }
+    }
+
     // The command that is due, and the place on the run after it.
     fn step(self) -> (Command, Held)
         requires { ⌜ isZero (self .registers .b) ≡ false ⌝ }
@@ -59,16 +76,7 @@ pub impl Engine for WordEngine as WordAsEngine {
 
     // It takes every order that there is, and so refuses no pair.
     fn begin(&mut self, pair: AdmittedPair) -> Result<(), Fault> {
-        self.held = Some(Held {
-            order: pair.order(),
-            registers: Registers {
-                a: pair.a(),
-                b: pair.b(),
-                delta: 0,
-                twos: 0,
-                count: 0,
-            },
-        });
+        self.held = Some(Held::start(pair));
         Ok(())
     }
 

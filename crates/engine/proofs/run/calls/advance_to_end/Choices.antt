@@ -1,7 +1,7 @@
 use Prim.Native.Nat.{_-_, _≤_}
 use Rattle.std.specs.Of.Vec.{vec-items, vec-len, vec-cap}
 use Rattle.engine.proofs.Runs.{Underway}
-use Rattle.engine.proofs.run.calls.run_to_end.Given as given
+use Rattle.engine.proofs.run.calls.advance_to_end.Given as given
 
 abbrev pub Inv-loop-command : given.InvT-loop-command
 Inv-loop-command g l = Underway (l .pair) (vec-items (l .commands)) (g .E·Engine .meaning (l .engine)) × (225 ≤ vec-cap (l .commands))

@@ -6,12 +6,10 @@ use mir.Val.{SFits}
 use Rattle.std.proofs.shelf.Signed.{toZ-ofZ}
 use Rattle.std.specs.Of.Vec.{vec-items}
 use Rattle.engine.proofs.Runs.{underway-start, underway-more, underway-room, divisor-fits, finished}
-use Rattle.engine.proofs.run.calls.run_to_end.Needs as need
+use Rattle.engine.proofs.run.calls.advance_to_end.Needs as need
 
 pub loop-command-holds : need.loop-command-holds
-loop-command-holds g c =
-    let v = c .in-Continue-commands .ensures tt .made in
-    (underway-start (c .args .pair) _ (g .E·Engine .meaning (c .begin .last .self)) (v .0) (c .in-Continue-begin .ensures tt .1), v .1 .1)
+loop-command-holds g c = (underway-start (c .args .pair) (vec-items (c .args .commands)) (g .E·Engine .meaning (c .args .engine .now)) (c .pre .empty) (c .pre .begun), c .pre .room)
 
 pub push-reserved-requires : need.push-reserved-requires
 push-reserved-requires g c κs =
@@ -41,4 +39,4 @@ returns g c =
     let m = g .E·Engine .meaning in
     let f : SFits w64 (c .a .result) = search needs in
     let d = simp (c .a .ensures) at (simp toZ-ofZ at (c .divisor-gcd .ensures)) in
-    (c .in-Continue-begin .ensures tt .0, finished (c .args .pair) _ (c .in-rest .field-0) (m (c .loop-command .engine)) (m (c .advance .last .self)) (c .loop-command .inv .0) (c .in-rest .ensures tt) refl (c .twos-twos .ensures) d)
+    finished (c .args .pair) _ (c .in-rest .field-0) (m (c .loop-command .engine)) (m (c .advance .last .self)) (c .loop-command .inv .0) (c .in-rest .ensures tt) refl (c .twos-twos .ensures) d

@@ -3,10 +3,10 @@ use mir.Syntax.{w64}
 use mir.Val.{SFits}
 use Rattle.std.proofs.shelf.Signed.{toZ-ofZ}
 use Rattle.rule.proofs.Reached.{reached-start}
-use Rattle.engine.proofs.word.calls.WordAsEngine.begin.Needs as need
+use Rattle.engine.proofs.word.Held.start.Needs as need
 
-pub ghost-self : need.ghost-self
-ghost-self c =
+pub ghost-result : need.ghost-result
+ghost-result c =
     let p = c .args .pair in
     let f : SFits w64 (c .a .result) = search needs in
     let g : SFits w64 (c .b .result) = search needs in

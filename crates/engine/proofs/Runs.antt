@@ -8,18 +8,19 @@ use lib.IntN.{ℤ, natAbs}
 use lib.ListN.{length, length-append}
 use lib.Pow.{pow-mono}
 use Rattle.std.specs.declared.result.Result.the-variants.{Ok, Err}
-use Rattle.rule.specs.Rule.{start, after, told, Need, next, command}
+use Rattle.rule.specs.Rule.{after, told, Running, Need}
 use Rattle.rule.specs.Whole.{isZero, whole}
 use Rattle.rule.specs.Divisor.{Greatest, divisor}
 use Rattle.rule.specs.Theorems.{Narrow}
 use Rattle.rule.specs.declared.command.Command.{Command}
 use Rattle.rule.specs.declared.fault.Fault.{Fault}
 use Rattle.rule.specs.declared.pair.AdmittedPair.{AdmittedPair}
-use Rattle.rule.proofs.Fuel.{Running, after-more, told-more, running-more, count-after}
+use Rattle.rule.proofs.Fuel.{after-more, told-more, running-more, count-after}
 use Rattle.rule.proofs.Whole.{running-narrow}
 use Rattle.rule.proofs.Divisor.{divisor-greatest, greatest-most}
 use Rattle.std.specs.Of.Vec.{vec-items}
-use Rattle.engine.specs.Meaning.{Meaning, held, orderOf, startOf, Advances, aOf, twosOf}
+use Rattle.rule.specs.Pairs.{orderOf, startOf}
+use Rattle.engine.specs.Meaning.{Meaning, held, Advances, aOf, twosOf}
 use Rattle.engine.specs.Runs.{spent, Finished}
 use Rattle.engine.specs.declared.run.Run.{Run}
 

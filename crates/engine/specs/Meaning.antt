@@ -5,8 +5,9 @@ use mathlib.Core.Bool.{Bool, true, false}
 use lib.IntN.{ℤ, pos}
 use Rattle.std.specs.declared.result.Result.{Result}
 use Rattle.std.specs.declared.result.Result.the-variants.{Ok, Err}
-use Rattle.rule.specs.Rule.{State, start, command, next}
+use Rattle.rule.specs.Rule.{State, command, next}
 use Rattle.rule.specs.Whole.{isZero, whole}
+use Rattle.rule.specs.Pairs.{orderOf, startOf}
 use Rattle.rule.specs.Refusal.{fault}
 use Rattle.rule.specs.declared.command.Command.{Command}
 use Rattle.rule.specs.declared.fault.Fault.{Fault}
@@ -18,13 +19,6 @@ use Rattle.rule.specs.declared.pair.AdmittedPair.{AdmittedPair}
 pub data Meaning : Type 0 where
   idle : Meaning
   held : ℕ → State ℤ → Meaning
-
--- The order of a pair, and the start of its run.
-abbrev pub orderOf : AdmittedPair → ℕ
-orderOf p = p .order .value
-
-abbrev pub startOf : AdmittedPair → State ℤ
-startOf p = start (p .a) (p .b)
 
 -- Begin sets the rule's start, or refuses an order above the engine's largest and leaves what was held.
 abbrev pub Begins : ℕ → Meaning → AdmittedPair → Result (Unit {0}) Fault → Meaning → Type 0

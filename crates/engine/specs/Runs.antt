@@ -13,7 +13,8 @@ use Rattle.rule.specs.Refusal.{fault}
 use Rattle.rule.specs.declared.fault.Layer.the-variants.{Engine}
 use Rattle.rule.specs.declared.fault.Reason.the-variants.{OrderAboveLargest}
 use Rattle.rule.specs.declared.pair.AdmittedPair.{AdmittedPair}
-use Rattle.engine.specs.Meaning.{Meaning, held, orderOf, startOf}
+use Rattle.rule.specs.Pairs.{orderOf, startOf}
+use Rattle.engine.specs.Meaning.{Meaning, held}
 use Rattle.engine.specs.declared.run.Run.{Run}
 use Rattle.engine.specs.declared.run.RunError.{RunError}
 use Rattle.engine.specs.declared.run.RunError.the-variants.{Refused, NoMemory}

@@ -9,8 +9,8 @@ use lib.Signed.{leZ}
 use Rattle.std.proofs.shelf.Signed.{ints}
 use Rattle.std.proofs.shelf.Tests.{both-ways}
 use Rattle.rule.specs.Kind.{Kind, Laws, signBy, summed, joined}
-use Rattle.rule.specs.Rule.{State, start, commandBy, command, obeyed, next, after, Need}
-use Rattle.rule.proofs.Fuel.{Running, Burns, fuel-after, ends-within}
+use Rattle.rule.specs.Rule.{State, start, commandBy, command, obeyed, next, after, Running, Need}
+use Rattle.rule.proofs.Fuel.{Burns, fuel-after, ends-within}
 
 abbrev bit : Bool → ℕ
 bit true = 1

@@ -9,7 +9,7 @@ use Rattle.std.proofs.shelf.Tests.{cases-bool, both-ways}
 use Rattle.rule.specs.Kind.{Kind}
 use Rattle.rule.specs.declared.command.Command.{Command}
 use Rattle.rule.specs.declared.command.Command.the-variants.{Both, Cross, Shift, PlusMinus}
-use Rattle.rule.specs.Rule.{State, command, obeyed, next, after, told, Need}
+use Rattle.rule.specs.Rule.{State, command, obeyed, next, after, told, Running, Need}
 
 -- ---- one command more, at the end of the run so far
 pub after-more : {K : Type 0} (k : Kind K) (m : ℕ) (s : State K) → after k (suc m) s ≡ next k (after k m s)
@@ -40,9 +40,6 @@ count-after k zero s = omega arith
 count-after k (suc m) s = omega (arith, count-after k m (next k s), count-next k s)
 
 -- ---- the need
-abbrev pub Running : {K : Type 0} → Kind K → State K → ℕ → Type 0
-Running k s m = (j : ℕ) → j < m → k .isZero (after k j s .b) ≡ false
-
 running-next : {K : Type 0} (k : Kind K) (s : State K) (m : ℕ) → k .isZero (s .b) ≡ false → Running k (next k s) m → Running k s (suc m)
 unfolding after
 running-next k s m n h zero l = n

@@ -7,7 +7,7 @@ use native.Mathlib.Omega.{arith}
 use native.Mathlib.Bridge.{le-prop}
 use lib.Pow.{pow-mono}
 use lib.IntN.{ℤ}
-use Rattle.rule.specs.Rule.{State, start, exchanged, next, after}
+use Rattle.rule.specs.Rule.{State, start, exchanged, next, after, Running}
 use Rattle.rule.specs.Whole.{isZero, whole, Below}
 use Rattle.rule.specs.Admitted.{OperandsAdmitted}
 use Rattle.rule.specs.Theorems.{Narrow}
@@ -26,7 +26,7 @@ reached-next n s z r =
       y = r .y;
       operands = r .operands;
       here = ap (λ (m : ℕ). after whole m (start (r .x) (r .y))) (count-next whole s) ∙ after-more whole (s .count) (start (r .x) (r .y)) ∙ ap (next whole) (r .here);
-      running = subst (λ (m : ℕ). (j : ℕ) → j < m → isZero (after whole j (start (r .x) (r .y)) .b) ≡ false) (sym (count-next whole s))
+      running = subst (Running whole (start (r .x) (r .y))) (sym (count-next whole s))
           (running-more whole (start (r .x) (r .y)) (s .count) (r .running) (ap (λ t. isZero (t .b)) (r .here) ∙ z));
     }
 

@@ -9,11 +9,11 @@ use lib.Signed.{leZ}
 use Rattle.std.proofs.shelf.Signed.{ints}
 use Rattle.std.proofs.shelf.Tests.{eqb-true, eqb-false, eq-eqb}
 use Rattle.rule.specs.Kind.{Laws, signBy, summed}
-use Rattle.rule.specs.Rule.{State, start, commandBy, command, obeyed, next, after, Need}
+use Rattle.rule.specs.Rule.{State, start, commandBy, command, obeyed, next, after, Running, Need}
 use Rattle.rule.specs.Whole.{isZero, odd, half, fourfold, whole, Below, Exact}
 use Rattle.rule.specs.Theorems.{Whole-lawful, Halvings-exact, Need-bounded, Narrow, Run-narrow}
 use Rattle.rule.proofs.Parity.{odd-no, Joins, joins}
-use Rattle.rule.proofs.Fuel.{Running, count-after}
+use Rattle.rule.proofs.Fuel.{count-after}
 use Rattle.rule.proofs.Bound.{Room, need-within, room-after}
 
 pub zero-yes : (z : ℤ) → isZero z ≡ true → z ≡ pos 0

@@ -7,5 +7,6 @@ pub mod Reached
 pub mod Letters
 pub mod Refusal
 pub mod Admission
+pub mod Pairs
 pub mod Theorems
 pub mod Marked

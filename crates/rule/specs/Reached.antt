@@ -1,10 +1,9 @@
 -- The states that the runs of admitted pairs go through.
-use Prim.Native.Nat.{ℕ, _<_}
+use Prim.Native.Nat.{ℕ}
 use mathlib.Core.Path.{_≡_}
-use mathlib.Core.Bool.{false}
 use lib.IntN.{ℤ}
-use Rattle.rule.specs.Rule.{State, start, after}
-use Rattle.rule.specs.Whole.{isZero, whole}
+use Rattle.rule.specs.Rule.{State, start, after, Running}
+use Rattle.rule.specs.Whole.{whole}
 use Rattle.rule.specs.Admitted.{OperandsAdmitted}
 
 -- The rule stands at s on its way from operands x, y of order n to its end.
@@ -13,4 +12,4 @@ pub record Reached (n : ℕ) (s : State ℤ) : Type 0 where
   pub y : ℤ
   pub operands : OperandsAdmitted n x y
   pub here : after whole (s .count) (start x y) ≡ s
-  pub running : (j : ℕ) → j < s .count → isZero (after whole j (start x y) .b) ≡ false
+  pub running : Running whole (start x y) (s .count)

@@ -62,7 +62,11 @@ unfoldable pub told : {K : Type 0} → Kind K → ℕ → State K → List Comma
 told k zero s = []
 told k (suc m) s = command k s ∷ told k m (next k s)
 
+-- b is not 0 before any of the first m commands.
+abbrev pub Running : {K : Type 0} → Kind K → State K → ℕ → Type 0
+Running k s m = (j : ℕ) → j < m → k .isZero (after k j s .b) ≡ false
+
 -- The need is m: b is 0 after m commands, and not before.
 pub record Need {K : Type 0} (k : Kind K) (s : State K) (m : ℕ) : Type 0 where
   pub over : k .isZero (after k m s .b) ≡ true
-  pub before : (j : ℕ) → j < m → k .isZero (after k j s .b) ≡ false
+  pub before : Running k s m

@@ -1,9 +1,10 @@
 // What the word engine does.
 ghost use mathlib.Core.Bool.{false};
 ghost use mathlib.Core.Path.{_≡_};
+ghost use Rattle.rule.specs.Pairs.{startOf};
 ghost use Rattle.rule.specs.Rule.{command, next};
 ghost use Rattle.rule.specs.Whole.{isZero, whole};
-ghost use Rattle.engine.specs.Meaning.{idle, startOf};
+ghost use Rattle.engine.specs.Meaning.{idle};
 ghost use Rattle.engine.specs.WordMeaning.{wordMeaning};
 ghost use Rattle.engine.specs.Words.{stateOf};
 use super::Held;

@@ -1,4 +1,5 @@
 pub mod Ring
+pub mod Sizes
 pub mod Parity
 pub mod Fuel
 pub mod Bound

@@ -1,14 +1,15 @@
 -- Parity and halves of whole numbers, by a witness: what `odd`, `half` and `fourfold` tell.
 use Prim.Native.Nat.{ℕ, suc, _/_, _%_}
-use mathlib.Core.Path.{_≡_, refl}
-use mathlib.Core.Bool.{Bool, true, false}
+use mathlib.Core.Path.{_≡_, refl, _∙_}
+use mathlib.Core.Bool.{Bool, true, false, _&&_}
 use mathlib.Core.Logic.{_⊎_, inl, inr}
 use native.Mathlib.Omega.{arith}
-use lib.IntN.{ℤ, pos, negsuc, _+ℤ_, _-ℤ_, negℤ}
+use lib.IntN.{ℤ, pos, negsuc, _+ℤ_, _-ℤ_, _*ℤ_, negℤ, *ℤ-comm}
 use Rattle.std.proofs.shelf.Signed.{ints}
 use Rattle.std.proofs.shelf.Tests.{eqb-true, eqb-false, cases-bool}
 use Rattle.rule.specs.Kind.{signBy, summed}
 use Rattle.rule.specs.Whole.{odd, half, fourfold, whole}
+use Rattle.rule.proofs.Ring.{out, lin}
 
 pub odd-yes : (z : ℤ) → odd z ≡ true → z ≡ half z +ℤ half z +ℤ pos 1
 unfolding odd half
@@ -61,3 +62,41 @@ joins x y false e f g = at (cases-bool (odd (half x -ℤ half y)))
         let d : x -ℤ y ≡ (half x -ℤ half y) +ℤ (half x -ℤ half y) = omega (arith, ints, odd-yes x e, odd-yes y f) in
         let h : half (x -ℤ y) ≡ half x -ℤ half y = half-double (x -ℤ y) (half x -ℤ half y) d in
         record { even = odd-double (half (x -ℤ y)) (half (half x -ℤ half y)) (omega (arith, ints, odd-no (half x -ℤ half y) t)); twice = omega (arith, ints) }
+
+-- ---- parity of sums and products, as booleans
+abbrev pub xor : Bool → Bool → Bool
+xor true true = false
+xor true false = true
+xor false q = q
+
+add-by : (x y : ℤ) (p q : Bool) → odd x ≡ p → odd y ≡ q → odd (x +ℤ y) ≡ xor p q
+add-by x y true true e f = odd-double (x +ℤ y) (half x +ℤ half y +ℤ pos 1) (omega (arith, ints, odd-yes x e, odd-yes y f))
+add-by x y true false e f = odd-more (x +ℤ y) (half x +ℤ half y) (omega (arith, ints, odd-yes x e, odd-no y f))
+add-by x y false true e f = odd-more (x +ℤ y) (half x +ℤ half y) (omega (arith, ints, odd-no x e, odd-yes y f))
+add-by x y false false e f = odd-double (x +ℤ y) (half x +ℤ half y) (omega (arith, ints, odd-no x e, odd-no y f))
+
+pub odd-add : (x y : ℤ) → odd (x +ℤ y) ≡ xor (odd x) (odd y)
+odd-add x y = add-by x y (odd x) (odd y) refl refl
+
+neg-by : (x : ℤ) (p : Bool) → odd x ≡ p → odd (negℤ x) ≡ p
+neg-by x true e = odd-more (negℤ x) (negℤ (half x) -ℤ pos 1) (omega (arith, ints, odd-yes x e))
+neg-by x false e = odd-double (negℤ x) (negℤ (half x)) (omega (arith, ints, odd-no x e))
+
+pub odd-neg : (x : ℤ) → odd (negℤ x) ≡ odd x
+odd-neg x = neg-by x (odd x) refl
+
+mul-even : (x y i : ℤ) → x ≡ i +ℤ i → x *ℤ y ≡ i *ℤ y +ℤ i *ℤ y
+mul-even x y i e = simp (e, out)
+
+mul-odd : (x y i j : ℤ) → x ≡ i +ℤ i +ℤ pos 1 → y ≡ j +ℤ j +ℤ pos 1 → x *ℤ y ≡ (i *ℤ j +ℤ i *ℤ j +ℤ i +ℤ j) +ℤ (i *ℤ j +ℤ i *ℤ j +ℤ i +ℤ j) +ℤ pos 1
+mul-odd x y i j e f = simp (e, f, out) (omega (arith, lin))
+
+mul-by : (x y : ℤ) (p q : Bool) → odd x ≡ p → odd y ≡ q → odd (x *ℤ y) ≡ (p && q)
+mul-by x y false q e f = odd-double (x *ℤ y) (half x *ℤ y) (mul-even x y (half x) (odd-no x e))
+mul-by x y true false e f = odd-double (x *ℤ y) (half y *ℤ x) (*ℤ-comm x y ∙ mul-even y x (half y) (odd-no y f))
+mul-by x y true true e f = odd-more (x *ℤ y) (half x *ℤ half y +ℤ half x *ℤ half y +ℤ half x +ℤ half y) (mul-odd x y (half x) (half y) (odd-yes x e) (odd-yes y f))
+
+pub odd-mul : (x y : ℤ) → odd (x *ℤ y) ≡ (odd x && odd y)
+odd-mul x y = mul-by x y (odd x) (odd y) refl refl
+
+pub ruleset parity = (odd-add, odd-neg, odd-mul)

@@ -1,0 +1,2 @@
+pub mod follower;
+pub mod pair;

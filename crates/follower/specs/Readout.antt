@@ -1,0 +1,51 @@
+-- What the cofactor follower gives at the end of a run, and what is right of it.
+use Prim.Native.Nat.{ℕ, _+_, _*_, _≤_}
+use mathlib.Core.Path.{_≡_}
+use mathlib.Core.Bool.{Bool, true, false, not, cond}
+use lib.Dec.{ltb}
+use lib.IntN.{ℤ, pos, _+ℤ_, _-ℤ_, _*ℤ_, negℤ, natAbs}
+use lib.Signed.{ltZ}
+use Rattle.follower.specs.Cofactor.{Rows}
+
+abbrev pub isNegative : ℤ → Bool
+isNegative z = ltZ z (pos 0)
+
+-- z, negated where the mark is set.
+abbrev pub negatedBy : Bool → ℤ → ℤ
+negatedBy true z = negℤ z
+negatedBy false z = z
+
+-- Whether two numbers are both negative or both not.
+abbrev pub alike : Bool → Bool → Bool
+alike true q = q
+alike false q = not q
+
+-- z less w where the first mark is set and the second is, z plus w where only the first is, and else z.
+abbrev pub moved : Bool → Bool → ℤ → ℤ → ℤ
+moved false o z w = z
+moved true true z w = z -ℤ w
+moved true false z w = z +ℤ w
+
+-- c as it goes with the sign of a, and whether twice its size is above that of y.
+abbrev pub cOf : ℤ → Rows → ℤ
+cOf a r = negatedBy (isNegative a) (r .c)
+
+abbrev pub isFar : ℤ → Rows → Bool
+isFar a r = ltb (natAbs (r .y)) (2 * natAbs (cOf a r))
+
+-- Whether y has to be taken from c, to bring c towards zero, and not added.
+abbrev pub isLess : ℤ → Rows → Bool
+isLess a r = alike (isNegative (cOf a r)) (isNegative (r .y))
+
+-- The cofactors: c and d with the sign of a, moved once by y and x if c is far.
+abbrev pub uOf : ℤ → Rows → ℤ
+uOf a r = moved (isFar a r) (isLess a r) (cOf a r) (r .y)
+
+abbrev pub vOf : ℤ → Rows → ℤ
+vOf a r = moved (isFar a r) (isLess a r) (negatedBy (isNegative a) (r .d)) (negℤ (r .x))
+
+-- u and v are cofactors of g for a and b; and where a is not 0 they are small.
+pub record Cofactors (a b : ℤ) (g : ℕ) (u v : ℤ) : Type 0 where
+  pub sum : u *ℤ a +ℤ v *ℤ b ≡ pos g
+  pub small-u : (a ≡ pos 0 → ⊥) → 2 * natAbs u ≤ natAbs b
+  pub small-v : (a ≡ pos 0 → ⊥) → 2 * natAbs v ≤ natAbs a + 1

@@ -6,10 +6,13 @@ ghost use lib.Signed.{leZ};
 ghost use Rattle.rule.specs.Kind.{summed};
 ghost use Rattle.rule.specs.Rule.{commandBy, command, exchanged, combined, obeyed};
 ghost use Rattle.rule.specs.Theorems.{Narrow};
-ghost use Rattle.rule.specs.Whole.{odd, half, fourfold, whole};
+ghost use Rattle.rule.specs.Whole.{half, whole};
 ghost use Rattle.engine.specs.Words.{stateOf};
 use rule::command::Command;
 use rule::command::Sign;
+use rule::words::halved;
+use rule::words::is_fourfold;
+use rule::words::is_odd;
 
 #[derive(Clone, Copy)]
 pub struct Registers {
@@ -18,24 +21,6 @@ pub struct Registers {
     pub delta: i16,
     pub twos: u16,
     pub count: u16,
-}
-
-fn is_odd(z: i64) -> bool
-    ensures { λ r. ⌜ r ≡ odd z ⌝ }
-{
-    z % 2 != 0
-}
-
-fn halved(z: i64) -> i64
-    ensures { λ r. ⌜ r ≡ half z ⌝ }
-{
-    z >> 1
-}
-
-fn is_fourfold(z: i64) -> bool
-    ensures { λ r. ⌜ r ≡ fourfold z ⌝ }
-{
-    z % 4 == 0
 }
 
 fn is_at_least_zero(delta: i16) -> bool

@@ -28,6 +28,7 @@ pub follows-beside : {T U : Type 0} (first : AdmittedPair → T) (accepts : T �
     → Follows {T = T × U} (λ p. (first p, first′ p)) (λ t c. accepts (t .0) c && accepts′ (t .1) c) (λ t c. (turns (t .0) c, turns′ (t .1) c)) (λ p t s. relation p (t .0) s × relation′ p (t .1) s)
 follows-beside first accepts turns relation first′ accepts′ turns′ relation′ h k p m r =
     let e = turned-beside turns turns′ (first p) (first′ p) (told whole m (startOf p)) in
-    record
-      { related = rw e (h p m r .related, k p m r .related);
-        takes = λ n. rw e (and-from _ _ (h p m r .takes n) (k p m r .takes n)) }
+    record {
+      related = rw e (h p m r .related, k p m r .related);
+      takes = λ n. rw e (and-from _ _ (h p m r .takes n) (k p m r .takes n));
+    }

@@ -1,3 +1,4 @@
 pub mod Following
-pub mod Cofactor
+pub mod Rows
 pub mod Readout
+pub mod Within

@@ -21,7 +21,7 @@ use Rattle.rule.proofs.Parity.{odd-yes, odd-no, odd-double}
 use Rattle.rule.proofs.Sizes.{abs-mul, factor-most, left-some, pow-some}
 use Rattle.follower.specs.Cofactor.{Rows}
 use Rattle.follower.specs.Readout.{isNegative, negatedBy, alike, moved, cOf, isFar, isLess, uOf, vOf, Cofactors}
-use Rattle.follower.proofs.Cofactor.{Fresh, Phase, Kept, rowsAt, kept-at}
+use Rattle.follower.proofs.Rows.{Fresh, Phase, Kept, rowsAt, kept-at}
 
 -- ---- the sum
 -- the row, with the sign of a, gives |a|
@@ -94,13 +94,14 @@ divides-bare g t z w o e h = cancel-scale z (pos g *ℤ h .quotient) t o (e ∙ 
     ident u v q = simp out
 
 odd-factor : (g : ℕ) (x y q r : ℤ) → x ≡ pos g *ℤ q → y ≡ pos g *ℤ r → (odd x || odd y) ≡ true → odd (pos g) ≡ true
-odd-factor g x y q r e f o = elim (cases-bool (odd (pos g)))
-    [ inl t ↦ t
-    | inr n ↦ absurd (both-ways _ (or-none (odd x) (odd y) (even-product x q e n) (even-product y r f n)) o)
-    ]
+odd-factor g x y q r e f o = elim (cases-bool (odd (pos g))) [
+  | inl t ↦ t
+  | inr n ↦ absurd (both-ways _ (or-none (odd x) (odd y) (even-product x q e n) (even-product y r f n)) o)
+]
   where
     even-product : (z q : ℤ) → z ≡ pos g *ℤ q → odd (pos g) ≡ false → odd z ≡ false
     even-product z q e n = odd-double z (half (pos g) *ℤ q) (e ∙ ap (λ i. i *ℤ q) (odd-no (pos g) n) ∙ simp out)
+
     or-none : (p q : Bool) → p ≡ false → q ≡ false → (p || q) ≡ false
     or-none p q e f = grind arith
 
@@ -110,8 +111,10 @@ v-small g x y q r u v e f o some-x some-y h s = by (natAbs r) refl
   where
     size-x : natAbs x ≡ g * natAbs q
     size-x = ap natAbs e ∙ abs-mul (pos g) q
+
     size-y : natAbs y ≡ g * natAbs r
     size-y = ap natAbs f ∙ abs-mul (pos g) r
+
     by : (k : ℕ) → natAbs r ≡ k → 2 * natAbs v ≤ natAbs x + 1
     by zero n = absurd (let z : natAbs y ≡ g * 0 = size-y ∙ ap (λ (i : ℕ). g * i) n in omega (arith, z))
     by (suc zero) n =
@@ -144,9 +147,10 @@ bare : (p : AdmittedPair) (s : State ℤ) (r : Rows) → Kept p s r → Bare p s
 bare p s r h =
     let m = isNegative (s .a) in
     let c = cOf (s .a) r in
-    record
-      { sum = row-moved (isFar (s .a) r) (isLess (s .a) r) c (negatedBy m (r .d)) (r .x) (r .y) ∙ row-signed m (s .a) (r .c) (r .d) (r .x) (r .y) refl (h .values .first);
-        small-u = u-small (isFar (s .a) r) c (r .y) refl (omega (arith, h .size-c, negated-size m (r .c))) }
+    record {
+      sum = row-moved (isFar (s .a) r) (isLess (s .a) r) c (negatedBy m (r .d)) (r .x) (r .y) ∙ row-signed m (s .a) (r .c) (r .d) (r .x) (r .y) refl (h .values .first);
+      small-u = u-small (isFar (s .a) r) c (r .y) refl (omega (arith, h .size-c, negated-size m (r .c)));
+    }
 
 cofactors-there : (p : AdmittedPair) (s : State ℤ) (r : Rows) → s .b ≡ pos 0 → Kept p s r → Greatest (divisor s) (p .a) (p .b) → Cofactors (p .a) (p .b) (divisor s) (uOf (s .a) r) (vOf (s .a) r)
 cofactors-there p s r z h g =
@@ -157,10 +161,11 @@ cofactors-there p s r z h g =
     let size-y = factor-most (r .y) (pos t) (p .b) (h .values .of-b) (pow-some (s .twos)) in
     let e = divides-bare (natAbs (s .a)) t (r .x) (p .a) o (h .values .of-a) (g .divides-x) in
     let f = divides-bare (natAbs (s .a)) t (r .y) (p .b) o (h .values .of-b) (g .divides-y) in
-    record
-      { sum = subst₂ (λ i j. uOf (s .a) r *ℤ i +ℤ vOf (s .a) r *ℤ j ≡ pos (divisor s)) (h .values .of-a) (h .values .of-b) (scaled-sum (uOf (s .a) r) (vOf (s .a) r) (r .x) (r .y) (pos t) (pos (natAbs (s .a))) (b .sum));
-        small-u = λ _. omega (arith, b .small-u, size-y);
-        small-v = λ n. omega (arith, size-x, v-small (natAbs (s .a)) (r .x) (r .y) _ _ (uOf (s .a) r) (vOf (s .a) r) e f (not-fresh s r z (h .some-y) (h .phase)) (some-x n) (h .some-y) (b .small-u) (b .sum)) }
+    record {
+      sum = subst₂ (λ i j. uOf (s .a) r *ℤ i +ℤ vOf (s .a) r *ℤ j ≡ pos (divisor s)) (h .values .of-a) (h .values .of-b) (scaled-sum (uOf (s .a) r) (vOf (s .a) r) (r .x) (r .y) (pos t) (pos (natAbs (s .a))) (b .sum));
+      small-u = λ _. omega (arith, b .small-u, size-y);
+      small-v = λ n. omega (arith, size-x, v-small (natAbs (s .a)) (r .x) (r .y) _ _ (uOf (s .a) r) (vOf (s .a) r) e f (not-fresh s r z (h .some-y) (h .phase)) (some-x n) (h .some-y) (b .small-u) (b .sum));
+    }
   where
     some-x : (p .a ≡ pos 0 → ⊥) → 1 ≤ natAbs (r .x)
     some-x n = let w = left-some (r .x) (pos (2 ^ s .twos)) (p .a) (h .values .of-a) n in omega (arith, ints, w)

@@ -1,2 +1,4 @@
+pub mod cofactor;
+mod entries;
 pub mod follower;
 pub mod pair;

@@ -3,3 +3,4 @@ pub mod fault;
 pub mod order;
 pub mod pair;
 pub mod theorems;
+pub mod words;

@@ -1,6 +1,6 @@
 use borrow.Author.Needs.{needs}
 use Rattle.rule.specs.Whole.{half}
-use Rattle.engine.proofs.registers.halved.Needs as need
+use Rattle.rule.proofs.words.halved.Needs as need
 
 pub returns : need.returns
 unfolding half

@@ -1,6 +1,6 @@
 use borrow.Author.Needs.{needs}
 use Rattle.rule.specs.Whole.{odd}
-use Rattle.engine.proofs.registers.is_odd.Needs as need
+use Rattle.rule.proofs.words.is_odd.Needs as need
 
 pub returns : need.returns
 unfolding odd

@@ -89,12 +89,13 @@ halving : (E F : ℕ) (u z w : ℤ) (r : Rows) → Values u z r → z ≡ w +ℤ
 halving E F u z w r h e o k l =
     let v = corrected-even r (odd (r .e) || odd (r .f)) refl (value-even r z (h .second) (odd-double z w e)) o in
     let g = corrected-size E F r (odd (r .e) || odd (r .f)) k l in
-    record
-      { even-e = v .0;
-        even-f = v .1;
-        values = values-halved u z w (evened r) (values-corrected u z r (odd (r .e) || odd (r .f)) h) (v .0) (v .1) e;
-        size-e = half-size _ _ (v .0) (g .0);
-        size-f = half-size _ _ (v .1) (g .1) }
+    record {
+      even-e = v .0;
+      even-f = v .1;
+      values = values-halved u z w (evened r) (values-corrected u z r (odd (r .e) || odd (r .f)) h) (v .0) (v .1) e;
+      size-e = half-size _ _ (v .0) (g .0);
+      size-f = half-size _ _ (v .1) (g .1);
+    }
 
 summed-size : (g : Sign) (x y : ℤ) (H : ℕ) → 2 * natAbs x ≤ H → 2 * natAbs y ≤ H → natAbs (summed whole g x y) ≤ H
 summed-size Plus x y H h k = omega (arith, ints)
@@ -106,7 +107,7 @@ joining : (E F : ℕ) (u v w : ℤ) (r : Rows) (q : Bool) → Joins u v w q → 
     → Halving E F u w (combined (signBy q) r)
 joining E F u v w r q j h o kc kd ke kf =
     halving E F u (summed whole (signBy q) u v) w (combined (signBy q) r) (values-combined u v r (signBy q) h) (sym (j .twice)) o
-      (summed-size (signBy q) (r .c) (r .e) _ kc ke) (summed-size (signBy q) (r .d) (r .f) _ kd kf)
+    (summed-size (signBy q) (r .c) (r .e) _ kc ke) (summed-size (signBy q) (r .d) (r .f) _ kd kf)
 
 in-range : (n : ℕ) (z : ℤ) → natAbs z ≤ 2 * 2 ^ n → inRange n z ≡ true
 in-range n z h =
@@ -186,65 +187,99 @@ goes-by p s r false false q z a b g h =
     let j : half (r .y) ≡ half (s .b) = ap half (w .is-y) in
     let some-y : 1 ≤ natAbs (half (r .y)) = omega (arith, ints, h .some-y) in
     let one : natAbs (r .c) ≡ 1 = ap natAbs (w .is-c) in
-    let none : natAbs (r .e) ≡ 0 = ap natAbs (w .is-e) in
-    (and-from _ _ (ap (λ x. not (odd x)) (w .is-x) ∙ ap not a) (ap (λ x. not (odd x)) (w .is-y) ∙ ap not b),
-      record
-        { order = h .order;
-          values = record { first = row-one _ _ _ _ _ (w .is-c) (w .is-d) i; second = row-two _ _ _ _ _ (w .is-e) (w .is-f) j; of-a = half-scaled (r .x) (half (r .x)) (s .twos) (p .a) even-x (h .values .of-a); of-b = half-scaled (r .y) (half (r .y)) (s .twos) (p .b) even-y (h .values .of-b) };
-          some-y = some-y;
-          size-x = omega (arith, ints, even-x, h .size-x);
-          size-y = omega (arith, ints, even-y, h .size-y);
-          size-c = omega arith;
-          size-d = h .size-d;
-          size-e = omega arith;
-          size-f = h .size-f;
-          tight = λ _. (omega arith, let k = pow-pos (r .n) in rw (w .is-f) (omega arith));
-          phase = inr (record { is-x = i; is-y = j; is-c = w .is-c; is-d = w .is-d; is-e = w .is-e; is-f = w .is-f }) })
+    let none : natAbs (r .e) ≡ 0 = ap natAbs (w .is-e) in (
+      and-from _ _ (ap (λ x. not (odd x)) (w .is-x) ∙ ap not a) (ap (λ x. not (odd x)) (w .is-y) ∙ ap not b),
+      record {
+        order = h .order;
+        values = record { first = row-one _ _ _ _ _ (w .is-c) (w .is-d) i; second = row-two _ _ _ _ _ (w .is-e) (w .is-f) j; of-a = half-scaled (r .x) (half (r .x)) (s .twos) (p .a) even-x (h .values .of-a); of-b = half-scaled (r .y) (half (r .y)) (s .twos) (p .b) even-y (h .values .of-b) };
+        some-y = some-y;
+        size-x = omega (arith, ints, even-x, h .size-x);
+        size-y = omega (arith, ints, even-y, h .size-y);
+        size-c = omega arith;
+        size-d = h .size-d;
+        size-e = omega arith;
+        size-f = h .size-f;
+        tight = λ _. (omega arith, let k = pow-pos (r .n) in rw (w .is-f) (omega arith));
+        phase = inr (record { is-x = i; is-y = j; is-c = w .is-c; is-d = w .is-d; is-e = w .is-e; is-f = w .is-f });
+      },
+    )
 goes-by p s r false true q z a b g h =
     let o = some-odd s r (or-right _ _ b) (h .phase) in
     let w = halving (2 * natAbs (r .y)) (2 * 2 ^ r .n) (s .b) (s .a) (half (s .a)) (swapped true r) (values-swapped _ _ r (values-of p s r (h .values))) (odd-no (s .a) a) o (omega (arith, h .size-c)) (omega (arith, h .size-d)) in
-    let i = h .tight b in
-    (row-fits _ _ _ _ (swapped true r) (h .size-x) (h .size-y) (omega (arith, h .size-y)) (omega arith) w,
-      record
-        { order = h .order;
-          values = record { first = w .values .first; second = w .values .second; of-a = h .values .of-a; of-b = h .values .of-b };
-          some-y = h .some-y; size-x = h .size-x; size-y = h .size-y; size-c = i .0; size-d = i .1;
-          size-e = omega (arith, w .size-e); size-f = omega (arith, w .size-f, h .size-x);
-          tight = λ _. (omega (arith, w .size-e), omega (arith, w .size-f, h .size-x)); phase = inl (b, o) })
+    let i = h .tight b in (
+      row-fits _ _ _ _ (swapped true r) (h .size-x) (h .size-y) (omega (arith, h .size-y)) (omega arith) w,
+      record {
+        order = h .order;
+        values = record { first = w .values .first; second = w .values .second; of-a = h .values .of-a; of-b = h .values .of-b };
+        some-y = h .some-y;
+        size-x = h .size-x;
+        size-y = h .size-y;
+        size-c = i .0;
+        size-d = i .1;
+        size-e = omega (arith, w .size-e);
+        size-f = omega (arith, w .size-f, h .size-x);
+        tight = λ _. (omega (arith, w .size-e), omega (arith, w .size-f, h .size-x));
+        phase = inl (b, o);
+      },
+    )
 goes-by p s r true false q z a b g h =
     let o = some-odd s r (or-left _ _ a) (h .phase) in
-    let w = halving (2 * natAbs (r .y)) (2 * 2 ^ r .n) (s .a) (s .b) (half (s .b)) r (values-of p s r (h .values)) (odd-no (s .b) b) o (h .size-e) (h .size-f) in
-    (row-fits _ _ _ _ r (h .size-x) (h .size-y) (omega (arith, h .size-y)) (omega arith) w,
-      record
-        { order = h .order;
-          values = record { first = w .values .first; second = w .values .second; of-a = h .values .of-a; of-b = h .values .of-b };
-          some-y = h .some-y; size-x = h .size-x; size-y = h .size-y; size-c = h .size-c; size-d = h .size-d;
-          size-e = omega (arith, w .size-e); size-f = omega (arith, w .size-f, h .size-x);
-          tight = λ _. (omega (arith, w .size-e), omega (arith, w .size-f, h .size-x)); phase = inl (a, o) })
+    let w = halving (2 * natAbs (r .y)) (2 * 2 ^ r .n) (s .a) (s .b) (half (s .b)) r (values-of p s r (h .values)) (odd-no (s .b) b) o (h .size-e) (h .size-f) in (
+      row-fits _ _ _ _ r (h .size-x) (h .size-y) (omega (arith, h .size-y)) (omega arith) w,
+      record {
+        order = h .order;
+        values = record { first = w .values .first; second = w .values .second; of-a = h .values .of-a; of-b = h .values .of-b };
+        some-y = h .some-y;
+        size-x = h .size-x;
+        size-y = h .size-y;
+        size-c = h .size-c;
+        size-d = h .size-d;
+        size-e = omega (arith, w .size-e);
+        size-f = omega (arith, w .size-f, h .size-x);
+        tight = λ _. (omega (arith, w .size-e), omega (arith, w .size-f, h .size-x));
+        phase = inl (a, o);
+      },
+    )
 goes-by p s r true true q false a b g h =
     let o = some-odd s r (or-left _ _ a) (h .phase) in
     let i = h .tight b in
     let j = joins (s .a) (s .b) q a b g in
-    let w = joining (3 * natAbs (r .y)) (3 * 2 ^ r .n) (s .a) (s .b) _ r q j (values-of p s r (h .values)) o (h .size-c) (h .size-d) (i .0) (i .1) in
-    (row-fits _ _ _ _ (combined (signBy q) r) (h .size-x) (h .size-y) (omega (arith, h .size-y)) (omega arith) w,
-      record
-        { order = h .order;
-          values = record { first = w .values .first; second = w .values .second; of-a = h .values .of-a; of-b = h .values .of-b };
-          some-y = h .some-y; size-x = h .size-x; size-y = h .size-y; size-c = h .size-c; size-d = h .size-d;
-          size-e = omega (arith, w .size-e); size-f = omega (arith, w .size-f, h .size-x);
-          tight = λ k. absurd (both-ways _ (j .even) k); phase = inl (a, o) })
+    let w = joining (3 * natAbs (r .y)) (3 * 2 ^ r .n) (s .a) (s .b) _ r q j (values-of p s r (h .values)) o (h .size-c) (h .size-d) (i .0) (i .1) in (
+      row-fits _ _ _ _ (combined (signBy q) r) (h .size-x) (h .size-y) (omega (arith, h .size-y)) (omega arith) w,
+      record {
+        order = h .order;
+        values = record { first = w .values .first; second = w .values .second; of-a = h .values .of-a; of-b = h .values .of-b };
+        some-y = h .some-y;
+        size-x = h .size-x;
+        size-y = h .size-y;
+        size-c = h .size-c;
+        size-d = h .size-d;
+        size-e = omega (arith, w .size-e);
+        size-f = omega (arith, w .size-f, h .size-x);
+        tight = λ k. absurd (both-ways _ (j .even) k);
+        phase = inl (a, o);
+      },
+    )
 goes-by p s r true true q true a b g h =
     let o = some-odd s r (or-left _ _ a) (h .phase) in
     let i = h .tight b in
     let j = joins (s .b) (s .a) q b a (ap fourfold (+ℤ-comm (s .b) (s .a)) ∙ g) in
-    let w = joining (3 * natAbs (r .y)) (3 * 2 ^ r .n) (s .b) (s .a) _ (swapped true r) q j (values-swapped _ _ r (values-of p s r (h .values))) o (i .0) (i .1) (h .size-c) (h .size-d) in
-    (row-fits _ _ _ _ (combined (signBy q) (swapped true r)) (h .size-x) (h .size-y) (omega (arith, h .size-y)) (omega arith) w,
-      record
-        { order = h .order;
-          values = record { first = w .values .first; second = w .values .second; of-a = h .values .of-a; of-b = h .values .of-b };
-          some-y = h .some-y; size-x = h .size-x; size-y = h .size-y; size-c = i .0; size-d = i .1;
-          size-e = omega (arith, w .size-e); size-f = omega (arith, w .size-f, h .size-x);
-          tight = λ k. absurd (both-ways _ (j .even) k); phase = inl (b, o) })
+    let w = joining (3 * natAbs (r .y)) (3 * 2 ^ r .n) (s .b) (s .a) _ (swapped true r) q j (values-swapped _ _ r (values-of p s r (h .values))) o (i .0) (i .1) (h .size-c) (h .size-d) in (
+      row-fits _ _ _ _ (combined (signBy q) (swapped true r)) (h .size-x) (h .size-y) (omega (arith, h .size-y)) (omega arith) w,
+      record {
+        order = h .order;
+        values = record { first = w .values .first; second = w .values .second; of-a = h .values .of-a; of-b = h .values .of-b };
+        some-y = h .some-y;
+        size-x = h .size-x;
+        size-y = h .size-y;
+        size-c = i .0;
+        size-d = i .1;
+        size-e = omega (arith, w .size-e);
+        size-f = omega (arith, w .size-f, h .size-x);
+        tight = λ k. absurd (both-ways _ (j .even) k);
+        phase = inl (b, o);
+      },
+    )
 
 goes : (p : AdmittedPair) (s : State ℤ) (r : Rows) → Kept p s r → Goes p (command whole s) s r
 unfolding command
@@ -254,13 +289,19 @@ kept-start : (p : AdmittedPair) → Kept p (startOf p) (firstRows p)
 kept-start p =
     let k = pow-pos (orderOf p) in
     let h = p .admitted in
-    record
-      { order = refl;
-        values = record { first = row-one (pos 1) (pos 0) (p .a) (p .b) (p .a) refl refl refl; second = row-two (pos 0) (pos 1) (p .a) (p .b) (p .b) refl refl refl; of-a = *ℤ-unit (p .a); of-b = *ℤ-unit (p .b) };
-        some-y = some (p .b) (h .2);
-        size-x = omega (arith, h .0); size-y = omega (arith, h .1); size-c = omega (arith, some (p .b) (h .2)); size-d = omega arith; size-e = omega arith; size-f = omega arith;
-        tight = λ _. (omega arith, omega arith);
-        phase = inr (record { is-x = refl; is-y = refl; is-c = refl; is-d = refl; is-e = refl; is-f = refl }) }
+    record {
+      order = refl;
+      values = record { first = row-one (pos 1) (pos 0) (p .a) (p .b) (p .a) refl refl refl; second = row-two (pos 0) (pos 1) (p .a) (p .b) (p .b) refl refl refl; of-a = *ℤ-unit (p .a); of-b = *ℤ-unit (p .b) };
+      some-y = some (p .b) (h .2);
+      size-x = omega (arith, h .0);
+      size-y = omega (arith, h .1);
+      size-c = omega (arith, some (p .b) (h .2));
+      size-d = omega arith;
+      size-e = omega arith;
+      size-f = omega arith;
+      tight = λ _. (omega arith, omega arith);
+      phase = inr (record { is-x = refl; is-y = refl; is-c = refl; is-d = refl; is-e = refl; is-f = refl });
+    }
   where
     some : (y : ℤ) → (y ≡ pos 0 → ⊥) → 1 ≤ natAbs y
     some y n = omega (arith, ints)
@@ -291,6 +332,7 @@ cofactor-follows p k run =
     let s = after whole k (startOf p) in
     let h = kept-at p k in
     let e = sym (cofactor-table p k) in
-    record
-      { related = subst (λ t. CofactorRelated p t s) e (h .values);
-        takes = λ _. subst (λ t. cofactorAccepts t (command whole s) ≡ true) e (goes p s (rowsAt p k) h .0) }
+    record {
+      related = subst (λ t. CofactorRelated p t s) e (h .values);
+      takes = λ _. subst (λ t. cofactorAccepts t (command whole s) ≡ true) e (goes p s (rowsAt p k) h .0);
+    }

@@ -20,7 +20,7 @@ use Rattle.rule.proofs.Ring.{out, lin}
 use Rattle.rule.proofs.Parity.{odd-yes, odd-no, odd-double}
 use Rattle.rule.proofs.Sizes.{abs-mul, factor-most, left-some, pow-some}
 use Rattle.follower.specs.Cofactor.{Rows}
-use Rattle.follower.specs.Readout.{isNegative, negatedBy, alike, moved, cOf, isFar, isLess, uOf, vOf, Cofactors}
+use Rattle.follower.specs.Readout.{isNegative, negatedBy, alike, moved, cOf, isFar, isLess, uOf, vOf, Bezout}
 use Rattle.follower.proofs.Rows.{Fresh, Phase, Kept, rowsAt, kept-at}
 
 -- ---- the sum
@@ -152,8 +152,8 @@ bare p s r h =
       small-u = u-small (isFar (s .a) r) c (r .y) refl (omega (arith, h .size-c, negated-size m (r .c)));
     }
 
-cofactors-there : (p : AdmittedPair) (s : State ℤ) (r : Rows) → s .b ≡ pos 0 → Kept p s r → Greatest (divisor s) (p .a) (p .b) → Cofactors (p .a) (p .b) (divisor s) (uOf (s .a) r) (vOf (s .a) r)
-cofactors-there p s r z h g =
+bezout-there : (p : AdmittedPair) (s : State ℤ) (r : Rows) → s .b ≡ pos 0 → Kept p s r → Greatest (divisor s) (p .a) (p .b) → Bezout (p .a) (p .b) (divisor s) (uOf (s .a) r) (vOf (s .a) r)
+bezout-there p s r z h g =
     let b = bare p s r h in
     let t = 2 ^ s .twos in
     let o = pow-pos (s .twos) in

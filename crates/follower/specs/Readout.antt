@@ -5,7 +5,10 @@ use mathlib.Core.Bool.{Bool, true, false, not, cond}
 use lib.Dec.{ltb}
 use lib.IntN.{ℤ, pos, _+ℤ_, _-ℤ_, _*ℤ_, negℤ, natAbs}
 use lib.Signed.{ltZ}
+use Rattle.std.specs.declared.option.Option.{Option}
+use Rattle.std.specs.declared.option.Option.the-variants.{Some, None}
 use Rattle.follower.specs.Cofactor.{Rows}
+use Rattle.follower.specs.declared.entries.Cofactors.{Cofactors}
 
 abbrev pub isNegative : ℤ → Bool
 isNegative z = ltZ z (pos 0)
@@ -44,8 +47,13 @@ uOf a r = moved (isFar a r) (isLess a r) (cOf a r) (r .y)
 abbrev pub vOf : ℤ → Rows → ℤ
 vOf a r = moved (isFar a r) (isLess a r) (negatedBy (isNegative a) (r .d)) (negℤ (r .x))
 
--- u and v are cofactors of g for a and b; and where a is not 0 they are small.
-pub record Cofactors (a b : ℤ) (g : ℕ) (u v : ℤ) : Type 0 where
+-- u and v are cofactors of g for a and b, and small where a is not 0.
+pub record Bezout (a b : ℤ) (g : ℕ) (u v : ℤ) : Type 0 where
   pub sum : u *ℤ a +ℤ v *ℤ b ≡ pos g
   pub small-u : (a ≡ pos 0 → ⊥) → 2 * natAbs u ≤ natAbs b
   pub small-v : (a ≡ pos 0 → ⊥) → 2 * natAbs v ≤ natAbs a + 1
+
+-- The cofactors of a follower that has been told a run which ended with a; a follower that is not begun has none.
+abbrev pub cofactorsAt : ℤ → Option Rows → Option Cofactors
+cofactorsAt a None = None
+cofactorsAt a (Some r) = Some (record { u = uOf a r; v = vOf a r })

@@ -17,4 +17,7 @@ pub struct Cofactor {
 
 mod calls;
 
+pub use crate::entries::Cofactors;
+pub use crate::entries::CofactorsDebug;
+pub use crate::entries::CofactorsPartialEq;
 pub use calls::CofactorFollower;

@@ -2,10 +2,12 @@
 ghost use mathlib.Core.Bool.{not, _&&_, _||_};
 ghost use mathlib.Core.Path.{_≡_};
 ghost use Prim.Native.Nat.{_+_, _*_, _^_, _<_, _≤_};
+ghost use lib.Dec.{ltb};
 ghost use lib.IntN.{natAbs};
 ghost use Rattle.rule.specs.Kind.{summed};
 ghost use Rattle.rule.specs.Whole.{odd, whole};
 ghost use Rattle.follower.specs.Cofactor.{halvedPair, swapped, combined, corrected, evened, halvedRow, inRange, rowFits, rowsTake, rowsTurn};
+ghost use Rattle.follower.specs.Readout.{isNegative, negatedBy, alike, moved, isFar, isLess, uOf, vOf};
 ghost use Rattle.follower.specs.Entries.{rowsOf, Within, Settled};
 use rule::command::Command;
 use rule::command::Sign;
@@ -22,6 +24,13 @@ pub struct Entries {
     pub d: i64,
     pub e: i64,
     pub f: i64,
+}
+
+// u and v.
+#[derive(Clone, Copy, PartialEq, Eq, Debug)]
+pub struct Cofactors {
+    pub u: i64,
+    pub v: i64,
 }
 
 fn sum(sign: Sign, a: i64, b: i64) -> i64
@@ -49,6 +58,48 @@ fn in_range(order: Order, z: i64) -> bool
     } else {
         z.unsigned_abs() < limit(order)
     }
+}
+
+fn is_negative(z: i64) -> bool
+    ensures { λ r. ⌜ r ≡ isNegative z ⌝ }
+{
+    z < 0
+}
+
+// z, negated where the mark is set.
+fn negated_by(mark: bool, z: i64) -> i64
+    requires { ⌜ natAbs z ≤ 2 ^ 58 ⌝ }
+    ensures value { λ r. ⌜ r ≡ negatedBy mark z ⌝ }
+    ensures size { λ r. ⌜ natAbs r ≤ 2 ^ 58 ⌝ }
+{
+    if mark { -z } else { z }
+}
+
+// z moved by w: down where both marks are set, up where only the first is.
+fn moved(far: bool, less: bool, z: i64, w: i64) -> i64
+    requires { ⌜ natAbs z ≤ 2 ^ 58 ⌝ ∗ ⌜ natAbs w ≤ 2 ^ 58 ⌝ }
+    ensures { λ r. ⌜ r ≡ moved far less z w ⌝ }
+{
+    match (far, less) {
+        (false, _) => z,
+        (true, true) => sum(Sign::Minus, z, w),
+        (true, false) => sum(Sign::Plus, z, w),
+    }
+}
+
+// Whether twice the size of c is above the size of y.
+fn is_far(c: i64, y: i64) -> bool
+    requires { ⌜ natAbs c ≤ 2 ^ 58 ⌝ }
+    ensures { λ r. ⌜ r ≡ ltb (natAbs y) (2 * natAbs c) ⌝ }
+{
+    y.unsigned_abs() < 2 * c.unsigned_abs()
+}
+
+// Whether c and y are both negative or both not.
+fn are_alike(c: i64, y: i64) -> bool
+    ensures { λ r. ⌜ r ≡ alike (isNegative c) (isNegative y) ⌝ }
+{
+    is_negative(c) == is_negative(y)
 }
 
 impl Entries {
@@ -187,6 +238,48 @@ impl Entries {
             Command::PlusMinus { sign, exchange } => self.swapped(exchange)
                 .combined(sign)
                 .settled(),
+        }
+    }
+
+    // Whether c, with the sign of a, is far from 0, and on which side of it.
+    fn is_far(self, a: i64) -> bool
+        requires { ⌜ Within (2 ^ 58) (rowsOf self) ⌝ }
+        ensures { λ r. ⌜ r ≡ isFar a (rowsOf self) ⌝ }
+    {
+        is_far(negated_by(is_negative(a), self.c), self.y)
+    }
+
+    fn is_less(self, a: i64) -> bool
+        requires { ⌜ Within (2 ^ 58) (rowsOf self) ⌝ }
+        ensures { λ r. ⌜ r ≡ isLess a (rowsOf self) ⌝ }
+    {
+        are_alike(negated_by(is_negative(a), self.c), self.y)
+    }
+
+    fn u(self, a: i64) -> i64
+        requires { ⌜ Within (2 ^ 58) (rowsOf self) ⌝ }
+        ensures { λ r. ⌜ r ≡ uOf a (rowsOf self) ⌝ }
+    {
+        let c = negated_by(is_negative(a), self.c);
+        moved(self.is_far(a), self.is_less(a), c, self.y)
+    }
+
+    fn v(self, a: i64) -> i64
+        requires { ⌜ Within (2 ^ 58) (rowsOf self) ⌝ }
+        ensures { λ r. ⌜ r ≡ vOf a (rowsOf self) ⌝ }
+    {
+        let d = negated_by(is_negative(a), self.d);
+        moved(self.is_far(a), self.is_less(a), d, negated_by(true, self.x))
+    }
+
+    // The cofactors, if a is what the run ended with.
+    pub(crate) fn cofactors(self, a: i64) -> Cofactors
+        requires { ⌜ Within (2 ^ 58) (rowsOf self) ⌝ }
+        ensures { λ r. ⌜ r ≡ record { u = uOf a (rowsOf self); v = vOf a (rowsOf self) } ⌝ }
+    {
+        Cofactors {
+            u: self.u(a),
+            v: self.v(a),
         }
     }
 }

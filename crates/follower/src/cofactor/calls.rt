@@ -5,8 +5,10 @@ ghost use Rattle.std.specs.declared.option.Option.the-variants.{None};
 ghost use Rattle.follower.specs.Cofactor.{Rows, cofactorFirst, cofactorAccepts, cofactorTurns, CofactorRelated};
 ghost use Rattle.follower.specs.CofactorTable.{cofactorTable, Turned};
 ghost use Rattle.follower.specs.Entries.{rowsOf};
+ghost use Rattle.follower.specs.Readout.{cofactorsAt};
 use super::Begun;
 use super::Cofactor;
+use crate::entries::Cofactors;
 use crate::entries::Entries;
 use crate::follower::Follower;
 use rule::command::Command;
@@ -31,6 +33,16 @@ impl Cofactor {
         ensures { λ r. ⌜ cofactorTable r ≡ None ⌝ }
     {
         Cofactor { begun: None }
+    }
+
+    // The cofactors of a run that ended with a; none before begin.
+    pub fn cofactors(&self, a: i64) -> Option<Cofactors>
+        ensures { λ r. ⌜ r ≡ cofactorsAt a (cofactorTable (now (self .entry))) ⌝ }
+    {
+        match self.begun {
+            Some(begun) => Some(begun.entries.cofactors(a)),
+            None => None,
+        }
     }
 }
 

@@ -1,2 +1,4 @@
 pub mod follower;
+pub mod fraction;
 pub mod pair;
+mod row;

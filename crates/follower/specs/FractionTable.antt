@@ -1,0 +1,22 @@
+-- The table and the read-out of a fraction follower as the code holds it.
+use Rattle.std.specs.declared.option.Option.{Option}
+use Rattle.std.specs.declared.option.Option.the-variants.{Some, None}
+use Rattle.follower.specs.Fraction.{Rows, numeratorOf, denominatorOf}
+use Rattle.follower.specs.declared.fraction.Columns.{Columns}
+use Rattle.follower.specs.declared.fraction.Fraction.{Fraction}
+use Rattle.follower.specs.declared.fraction.Lowest.{Lowest}
+
+abbrev pub rowsOf : Columns → Rows
+rowsOf t = record { order = t .order .value; first = t .first; second = t .second }
+
+abbrev begunTable : Option Columns → Option Rows
+begunTable None = None
+begunTable (Some t) = Some (rowsOf t)
+
+abbrev pub fractionTable : Fraction → Option Rows
+fractionTable f = begunTable (f .begun)
+
+-- The numerator and the denominator of a table, if there is one.
+abbrev pub readOut : Option Rows → Option Lowest
+readOut None = None
+readOut (Some t) = Some (record { numerator = numeratorOf t; denominator = denominatorOf t })

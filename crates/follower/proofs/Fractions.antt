@@ -1,12 +1,10 @@
 -- Why the fraction follower stays in its relation, and why its first column ends as the fraction in lowest terms.
-use Prim.Native.Nat.{ℕ, zero, suc, _+_, _-_, _*_, _%_, _≤_, _<_, _^_}
-use mathlib.Core.Path.{_≡_, refl, sym, ap, _∙_, subst, subst₂}
+use Prim.Native.Nat.{ℕ, zero, suc, _*_, _≤_, _<_, _^_}
+use mathlib.Core.Path.{_≡_, refl, sym, ap, ap₂, _∙_, subst, subst₂}
 use mathlib.Core.Bool.{Bool, true, false}
-use mathlib.Core.List.{_∷_, []}
 use native.Mathlib.Omega.{arith}
 use native.Mathlib.Nat.{mod-lt}
 use lib.IntN.{ℤ, pos, negsuc, _+ℤ_, _-ℤ_, _*ℤ_, negℤ, natAbs, +ℤ-comm, *ℤ-zero, zero-*ℤ}
-use lib.Pow.{pow-add, pow-pos}
 use lib.Signed.{leZ, ltZ, _<ℤ_}
 use Rattle.std.proofs.shelf.Signed.{ints}
 use Rattle.std.specs.declared.option.Option.{Option}
@@ -14,21 +12,21 @@ use Rattle.std.specs.declared.option.Option.the-variants.{Some, None}
 use Rattle.rule.specs.Kind.{signBy, summed}
 use Rattle.rule.specs.Divisor.{Divides, Greatest, divisor}
 use Rattle.rule.specs.Pairs.{orderOf, startOf}
-use Rattle.rule.specs.Rule.{State, commandBy, command, obeyed, next, after, told, Need}
+use Rattle.rule.specs.Rule.{State, commandBy, command, obeyed, next, after, told}
 use Rattle.rule.specs.Whole.{odd, half, fourfold, whole, Below}
 use Rattle.rule.specs.declared.command.Command.{Command}
 use Rattle.rule.specs.declared.pair.AdmittedPair.{AdmittedPair}
-use Rattle.rule.proofs.Ring.{out, lin, *ℤ-unit}
+use Rattle.rule.proofs.Ring.{out, lin, *ℤ-unit, *ℤ-neg, neg-*ℤ, neg-neg}
 use Rattle.rule.proofs.Sizes.{abs-mul, factor-most, left-some, right-some, pow-some}
-use Rattle.rule.proofs.Parity.{odd-no, half-double, Joins, joins}
+use Rattle.rule.proofs.Parity.{odd-no, joins}
 use Rattle.rule.proofs.Fuel.{after-more, told-more}
 use Rattle.rule.proofs.Whole.{zero-yes}
 use Rattle.rule.proofs.Divisor.{divisor-greatest}
 use Rattle.follower.specs.Following.{turned, tableAt, Follows}
-use Rattle.follower.specs.Fraction.{modulus, sumIn, differenceIn, row, columnsExchanged, columnDoubled, columnsCombined, rowAfter, Rows, Kept, rowsAfter, fractionFirst, fractionAccepts, fractionTurns, Same, RowRelated, RowsRelated, FractionRelated, readSigned, negatedBy, numeratorOf, denominatorOf, Reduced, ReadsReduced, TableReduced, Fraction-reduced}
+use Rattle.follower.specs.Fraction.{modulus, sumIn, columnsExchanged, columnDoubled, columnsCombined, rowAfter, Rows, Kept, fractionFirst, fractionAccepts, fractionTurns, Same, RowRelated, FractionRelated, readSigned, negatedBy, numeratorOf, denominatorOf, Reduced, ReadsReduced, TableReduced, Fraction-reduced}
 use Rattle.follower.specs.declared.row.Row.{Row}
 use Rattle.follower.proofs.Following.{turned-more}
-use Rattle.follower.proofs.Modulo.{same-refl, same-add, same-neg, same-mul, sum-same, difference-same, read-is}
+use Rattle.follower.proofs.Modulo.{same-refl, same-add, same-mul, sum-same, difference-same, modulus-many, read-is}
 
 -- ---- a row beside an exact one, whose entries i and j are not reduced: i·a + j·b is z over ℤ
 record Exactly (w : ℕ) (r : Row) (a b z : ℤ) : Type 0 where
@@ -142,19 +140,16 @@ abbrev Track : AdmittedPair → Option Rows → State ℤ → Type 0
 Track p None s = ⊥
 Track p (Some t) s = RowsTrack p t s
 
-big : (n : ℕ) → 1 < modulus n
-big n = let p = pow-add 2 n 2 in let q = pow-pos n in omega arith
-
 track-start : (p : AdmittedPair) → Track p (fractionFirst p) (startOf p)
 track-start p =
     let w = modulus (orderOf p) in
-    let l = big (orderOf p) in
+    let l = modulus-many (orderOf p) in
     let one = same-refl (pos w) (pos 1) in
     let none = same-refl (pos w) (pos 0) in
     record {
       order = refl;
-      first = record { bare = p .a; whole = *ℤ-unit (p .a); exactly = record { i = pos 1; j = pos 0; value = unit-one (p .a) (p .b); left = one; right = none; kept = (l, omega (arith, l)) } };
-      second = record { bare = p .b; whole = *ℤ-unit (p .b); exactly = record { i = pos 0; j = pos 1; value = unit-two (p .a) (p .b); left = none; right = one; kept = (omega (arith, l), l) } };
+      first = record { bare = p .a; whole = *ℤ-unit (p .a); exactly = record { i = pos 1; j = pos 0; value = unit-one (p .a) (p .b); left = one; right = none; kept = (l .1, l .0) } };
+      second = record { bare = p .b; whole = *ℤ-unit (p .b); exactly = record { i = pos 0; j = pos 1; value = unit-two (p .a) (p .b); left = none; right = one; kept = (l .0, l .1) } };
     }
   where
     unit-one : (x y : ℤ) → pos 1 *ℤ x +ℤ pos 0 *ℤ y ≡ x
@@ -217,12 +212,12 @@ record Ended (n : ℕ) (r : Row) (s : State ℤ) (z : ℤ) : Type 0 where
   small : natAbs i < 2 ^ n
   whole : s .a *ℤ pos (2 ^ s .twos) *ℤ i ≡ z
 
+dropped : (i j a b y : ℤ) → b ≡ pos 0 → i *ℤ a +ℤ j *ℤ b ≡ y → i *ℤ a ≡ y
+dropped i j a b y e g = let q : j *ℤ b ≡ pos 0 = ap (λ k. j *ℤ k) e ∙ *ℤ-zero j in omega (arith, lin)
+
 -- a is not 0 at the end of a run that had a b other than 0
 ended-some : (w : ℕ) (r : Row) (s : State ℤ) (z : ℤ) → (z ≡ pos 0 → ⊥) → s .b ≡ pos 0 → Tracks w r s z → s .a ≡ pos 0 → ⊥
 ended-some w r s z some b h = right-some (h .exactly .i) (s .a) (h .bare) (dropped (h .exactly .i) (h .exactly .j) (s .a) (s .b) (h .bare) b (h .exactly .value)) (left-some (h .bare) (pos (2 ^ s .twos)) z (h .whole) some)
-  where
-    dropped : (i j a b y : ℤ) → b ≡ pos 0 → i *ℤ a +ℤ j *ℤ b ≡ y → i *ℤ a ≡ y
-    dropped i j a b y e g = let q : j *ℤ b ≡ pos 0 = ap (λ k. j *ℤ k) e ∙ *ℤ-zero j in omega (arith, lin)
 
 ended : (n : ℕ) (r : Row) (s : State ℤ) (z : ℤ) → natAbs z < 2 ^ n → (s .a ≡ pos 0 → ⊥) → s .b ≡ pos 0 → Tracks (modulus n) r s z → Ended n r s z
 ended n r s z l some b h =
@@ -233,9 +228,6 @@ ended n r s z l some b h =
     let small : natAbs (x .i) < 2 ^ n = omega (arith, u, v, l) in
     record { i = x .i; reads = read-is n (r .left) (x .i) (x .kept .0) small (x .left); small = small; whole = scaled (x .i) (s .a) (pos (2 ^ s .twos)) (h .bare) z e (h .whole) }
   where
-    dropped : (i j a b y : ℤ) → b ≡ pos 0 → i *ℤ a +ℤ j *ℤ b ≡ y → i *ℤ a ≡ y
-    dropped i j a b y e g = let q : j *ℤ b ≡ pos 0 = ap (λ k. j *ℤ k) e ∙ *ℤ-zero j in omega (arith, lin)
-
     scaled : (i a t y z : ℤ) → i *ℤ a ≡ y → y *ℤ t ≡ z → a *ℤ t *ℤ i ≡ z
     scaled i a t y z e f = simp out (simp (← e, out) at f)
 
@@ -244,5 +236,87 @@ crossed : (g i j x y : ℤ) → g *ℤ i ≡ x → g *ℤ j ≡ y → i *ℤ y �
 crossed g i j x y e f = simp (← e, ← f, out)
 
 divides-scaled : (g i x : ℤ) (d : ℕ) → g *ℤ i ≡ x → Divides (pos d) i → Divides (pos (natAbs g * d)) x
-divides-scaled (pos g) i x d e h = record { quotient = h .quotient; exact = ? }
-divides-scaled (negsuc g) i x d e h = record { quotient = negℤ (h .quotient); exact = ? }
+divides-scaled (pos g) i x d e h = record { quotient = h .quotient; exact = ident (pos g) i x (pos d) (h .quotient) e (h .exact) }
+  where
+    ident : (g i x d q : ℤ) → g *ℤ i ≡ x → i ≡ d *ℤ q → x ≡ g *ℤ d *ℤ q
+    ident g i x d q e f = sym e ∙ simp (f, out)
+divides-scaled (negsuc g) i x d e h = record { quotient = negℤ (h .quotient); exact = ident (pos (suc g)) i x (pos d) (h .quotient) e (h .exact) }
+  where
+    ident : (g i x d q : ℤ) → negℤ g *ℤ i ≡ x → i ≡ d *ℤ q → x ≡ g *ℤ d *ℤ negℤ q
+    ident g i x d q e f = sym e ∙ simp (f, out)
+
+-- g·d is no larger than g, and d divides j, which is not 0
+only-one : (g d : ℕ) (j : ℤ) → 0 < g → g * d ≤ g → (j ≡ pos 0 → ⊥) → Divides (pos d) j → d ≡ 1
+only-one g zero j l m some h = absurd (some (h .exact ∙ zero-*ℤ (h .quotient)))
+only-one g (suc zero) j l m some h = refl
+only-one g (suc (suc d)) j l m some h = absurd (omega arith)
+
+-- ---- both negated or neither
+negated-crossed : (b : Bool) (i j x y : ℤ) → i *ℤ y ≡ j *ℤ x → negatedBy b i *ℤ y ≡ negatedBy b j *ℤ x
+negated-crossed false i j x y e = e
+negated-crossed true i j x y e = neg-*ℤ i y ∙ ap negℤ e ∙ sym (neg-*ℤ j x)
+
+negated-size : (b : Bool) (i : ℤ) → natAbs (negatedBy b i) ≡ natAbs i
+negated-size false i = refl
+negated-size true i = omega (arith, ints)
+
+negated-divides : (b : Bool) (d i : ℤ) → Divides d (negatedBy b i) → Divides d i
+negated-divides false d i h = h
+negated-divides true d i h = record { quotient = negℤ (h .quotient); exact = sym (neg-neg i) ∙ ap negℤ (h .exact) ∙ sym (*ℤ-neg d (h .quotient)) }
+
+negated-above : (b : Bool) (j : ℤ) → ltZ j (pos 0) ≡ b → (j ≡ pos 0 → ⊥) → pos 0 <ℤ negatedBy b j
+negated-above true j e some = omega (arith, ints)
+negated-above false j e some = omega (arith, ints)
+
+-- ---- the read-out
+lowest : (x y i j : ℤ) (s : State ℤ) (b : Bool) → ltZ j (pos 0) ≡ b → (y ≡ pos 0 → ⊥) → s .a *ℤ pos (2 ^ s .twos) *ℤ i ≡ x → s .a *ℤ pos (2 ^ s .twos) *ℤ j ≡ y
+    → Greatest (divisor s) x y → Reduced x y (negatedBy b i) (negatedBy b j)
+lowest x y i j s b f some e e′ g =
+    let k = s .a *ℤ pos (2 ^ s .twos) in
+    let size : natAbs k ≡ divisor s = abs-mul (s .a) (pos (2 ^ s .twos)) in
+    let j-some = right-some k j y e′ some in
+    let k-some = left-some k j y e′ some in
+    record {
+      positive = negated-above b j f j-some;
+      equal = negated-crossed b i j x y (crossed k i j x y e e′);
+      lowest = λ d u v.
+          let u′ = negated-divides b (pos d) i u in
+          let v′ = negated-divides b (pos d) j v in
+          let m = g .greatest (natAbs k * d) (divides-scaled k i x d e u′) (divides-scaled k j y d e′ v′) in
+          only-one (natAbs k) d j (size-some k k-some) (omega (arith, m, size)) j-some v′;
+    }
+  where
+    size-some : (k : ℤ) → (k ≡ pos 0 → ⊥) → 0 < natAbs k
+    size-some (pos zero) some = absurd (some refl)
+    size-some (pos (suc k)) some = omega arith
+    size-some (negsuc k) some = omega arith
+
+reads-reduced : (p : AdmittedPair) (t : Rows) (s : State ℤ) → s .b ≡ pos 0 → Greatest (divisor s) (p .a) (p .b) → RowsTrack p t s → ReadsReduced p t
+reads-reduced p t s b g h =
+    let n = t .order in
+    let l : natAbs (p .a) < 2 ^ n = subst (λ (m : ℕ). natAbs (p .a) < 2 ^ m) (sym (h .order)) (p .admitted .0) in
+    let m : natAbs (p .b) < 2 ^ n = subst (λ (m : ℕ). natAbs (p .b) < 2 ^ m) (sym (h .order)) (p .admitted .1) in
+    let some = ended-some (modulus n) (t .second) s (p .b) (p .admitted .2) b (h .second) in
+    let u = ended n (t .first) s (p .a) l some b (h .first) in
+    let v = ended n (t .second) s (p .b) m some b (h .second) in
+    by (u .i) (v .i) (u .reads) (v .reads) (subst (λ (m : ℕ). natAbs (u .i) < 2 ^ m) (h .order) (u .small)) (subst (λ (m : ℕ). natAbs (v .i) < 2 ^ m) (h .order) (v .small))
+    (lowest (p .a) (p .b) (u .i) (v .i) s (ltZ (v .i) (pos 0)) refl (p .admitted .2) (u .whole) (v .whole) g)
+  where
+    by : (i j : ℤ) → readSigned (t .order) (t .first .left) ≡ i → readSigned (t .order) (t .second .left) ≡ j → natAbs i < 2 ^ orderOf p → natAbs j < 2 ^ orderOf p
+        → Reduced (p .a) (p .b) (negatedBy (ltZ j (pos 0)) i) (negatedBy (ltZ j (pos 0)) j) → ReadsReduced p t
+    by i j e f l m r =
+        let nu : negatedBy (ltZ j (pos 0)) i ≡ numeratorOf t = ap₂ (λ x y. negatedBy (ltZ y (pos 0)) x) (sym e) (sym f) in
+        let de : negatedBy (ltZ j (pos 0)) j ≡ denominatorOf t = ap (λ y. negatedBy (ltZ y (pos 0)) y) (sym f) in
+        record {
+          reduced = subst₂ (Reduced (p .a) (p .b)) nu de r;
+          numerator = subst (Below (orderOf p)) nu (omega (arith, l, negated-size (ltZ j (pos 0)) i));
+          denominator = subst (Below (orderOf p)) de (omega (arith, m, negated-size (ltZ j (pos 0)) j));
+        }
+
+track-reduced : (p : AdmittedPair) (t : Option Rows) (s : State ℤ) → s .b ≡ pos 0 → Greatest (divisor s) (p .a) (p .b) → Track p t s → TableReduced p t
+track-reduced p None s b g h = absurd h
+track-reduced p (Some t) s b g h = reads-reduced p t s b g h
+
+pub fraction-reduced : Fraction-reduced
+fraction-reduced p m need =
+    track-reduced p (tableAt fractionFirst fractionTurns p m) (after whole m (startOf p)) (zero-yes _ (need .over)) (divisor-greatest (p .a) (p .b) (p .admitted .2) m need) (track p m)

@@ -1,13 +1,13 @@
 -- Numbers equal modulo w: sums, differences and multiples, and the number of small size that a residue stands for.
 use Prim.Native.Nat.{ℕ, zero, suc, _+_, _-_, _*_, _/_, _%_, _≤_, _<_, _^_}
-use mathlib.Core.Path.{_≡_, refl, sym, ap, _∙_}
+use mathlib.Core.Path.{_≡_, _∙_}
 use mathlib.Core.Bool.{true, false}
 use mathlib.Core.Logic.{_⊎_, inl, inr}
 use native.Mathlib.Omega.{arith}
-use native.Mathlib.Nat.{div-add-mod, mod-lt}
+use native.Mathlib.Nat.{div-add-mod}
 use lib.Dec.{ltb}
 use lib.IntN.{ℤ, pos, negsuc, _+ℤ_, _-ℤ_, _*ℤ_, negℤ, natAbs}
-use lib.Pow.{pow-add}
+use lib.Pow.{pow-add, pow-pos}
 use Rattle.std.proofs.shelf.Signed.{ints}
 use Rattle.std.proofs.shelf.Tests.{lt-ltb, le-ltb, cond-true, cond-false}
 use Rattle.rule.proofs.Ring.{out, lin}
@@ -51,6 +51,9 @@ near-by w q c z (negsuc m) l h k f = absurd (omega (arith, ints))
 
 pows : (n : ℕ) → (2 ^ (n + 2) ≡ 4 * 2 ^ n) × (2 ^ (n + 1) ≡ 2 * 2 ^ n)
 pows n = let p = pow-add 2 n 2 in let q = pow-add 2 n 1 in (omega arith, omega arith)
+
+pub modulus-many : (n : ℕ) → (0 < modulus n) × (1 < modulus n)
+modulus-many n = let p = pows n in let q = pow-pos n in (omega arith, omega arith)
 
 pub read-is : (n c : ℕ) (z : ℤ) → c < modulus n → natAbs z < 2 ^ n → Same (pos (modulus n)) (pos c) z → readSigned n c ≡ z
 read-is n c z l h s = by (near-by (2 ^ (n + 2)) (2 ^ n) c z (s .times) (omega (arith, pows n .0)) l h (s .is))

@@ -65,6 +65,7 @@ pub record Rows : Type 0 where
 abbrev pub Kept : ℕ → Row → Type 0
 Kept w r = (r .left < w) × (r .right < w)
 
+-- A command does the same to both rows.
 abbrev pub rowsAfter : Command → Rows → Rows
 rowsAfter c t = record { order = t .order; first = rowAfter (modulus (t .order)) c (t .first); second = rowAfter (modulus (t .order)) c (t .second) }
 
@@ -77,6 +78,7 @@ abbrev pub fractionAccepts : Option Rows → Command → Bool
 fractionAccepts None c = false
 fractionAccepts (Some t) c = true
 
+-- The table after a command; there is none without a begin.
 abbrev pub fractionTurns : Option Rows → Command → Option Rows
 fractionTurns None c = None
 fractionTurns (Some t) c = Some (rowsAfter c t)
@@ -86,18 +88,19 @@ pub record Same (w u v : ℤ) : Type 0 where
   pub times : ℤ
   pub is : u ≡ v +ℤ w *ℤ times
 
--- c·a + d·b is z without so many twos, modulo w, of the row c, d.
+-- Modulo w, the row times a and b is z without the twos counted so far.
 pub record RowRelated (w : ℕ) (r : Row) (s : State ℤ) (z : ℤ) : Type 0 where
   pub bare : ℤ
   pub whole : bare *ℤ pos (2 ^ s .twos) ≡ z
   pub same : Same (pos w) (pos (r .left) *ℤ s .a +ℤ pos (r .right) *ℤ s .b) bare
 
+-- So it is of the first row, with a of the pair, and of the second, with b.
 pub record RowsRelated (p : AdmittedPair) (t : Rows) (s : State ℤ) : Type 0 where
   pub order : t .order ≡ orderOf p
   pub first : RowRelated (modulus (orderOf p)) (t .first) s (p .a)
   pub second : RowRelated (modulus (orderOf p)) (t .second) s (p .b)
 
--- Modulo 2^(n+2), c·a + d·b and e·a + f·b are the pair without the twos counted so far.
+-- Modulo 2^(n+2), c·a + d·b and e·a + f·b are a′ and b′, the pair without the twos counted so far.
 abbrev pub FractionRelated : AdmittedPair → Option Rows → State ℤ → Type 0
 FractionRelated p None s = ⊥
 FractionRelated p (Some t) s = RowsRelated p t s
@@ -110,10 +113,11 @@ readSigned n z = cond (ltb z (2 ^ (n + 1))) (pos z) (pos z -ℤ pos (2 ^ (n + 2)
 abbrev pub negatedBy : Bool → ℤ → ℤ
 negatedBy b z = cond b (negℤ z) z
 
--- c and e so read, both negated if e is negative.
+-- c so read, negated if e is negative.
 abbrev pub numeratorOf : Rows → ℤ
 numeratorOf t = negatedBy (ltZ (readSigned (t .order) (t .second .left)) (pos 0)) (readSigned (t .order) (t .first .left))
 
+-- e so read, negated if it is negative.
 abbrev pub denominatorOf : Rows → ℤ
 denominatorOf t = negatedBy (ltZ (readSigned (t .order) (t .second .left)) (pos 0)) (readSigned (t .order) (t .second .left))
 

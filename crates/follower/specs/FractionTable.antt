@@ -2,21 +2,23 @@
 use Rattle.std.specs.declared.option.Option.{Option}
 use Rattle.std.specs.declared.option.Option.the-variants.{Some, None}
 use Rattle.follower.specs.Fraction.{Rows, numeratorOf, denominatorOf}
-use Rattle.follower.specs.declared.fraction.Columns.{Columns}
+use Rattle.follower.specs.declared.fraction.KeptRows.{KeptRows}
 use Rattle.follower.specs.declared.fraction.Fraction.{Fraction}
-use Rattle.follower.specs.declared.fraction.Lowest.{Lowest}
+use Rattle.follower.specs.declared.fraction.Ratio.{Ratio}
 
-abbrev pub rowsOf : Columns → Rows
+-- The table that kept rows are.
+abbrev pub rowsOf : KeptRows → Rows
 rowsOf t = record { order = t .order .value; first = t .first; second = t .second }
 
-abbrev begunTable : Option Columns → Option Rows
+abbrev begunTable : Option KeptRows → Option Rows
 begunTable None = None
 begunTable (Some t) = Some (rowsOf t)
 
+-- None before begin.
 abbrev pub fractionTable : Fraction → Option Rows
 fractionTable f = begunTable (f .begun)
 
 -- The numerator and the denominator of a table, if there is one.
-abbrev pub readOut : Option Rows → Option Lowest
+abbrev pub readOut : Option Rows → Option Ratio
 readOut None = None
 readOut (Some t) = Some (record { numerator = numeratorOf t; denominator = denominatorOf t })

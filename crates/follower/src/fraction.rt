@@ -5,7 +5,7 @@ use rule::order::Order;
 
 // The table of a pair of some order n, its entries from 0 to 2^(n+2) - 1.
 #[derive(Clone, Copy)]
-struct Columns {
+struct KeptRows {
     order: Order,
     first: Row,
     second: Row,
@@ -14,12 +14,12 @@ struct Columns {
 
 #[derive(Drop)]
 pub struct Fraction {
-    begun: Option<Columns>,
+    begun: Option<KeptRows>,
 }
 
-// A fraction in lowest terms.
+// What a table is read as; at the end of a run it is a/b in lowest terms.
 #[derive(Clone, Copy)]
-pub struct Lowest {
+pub struct Ratio {
     pub numerator: i64,
     pub denominator: i64,
 }

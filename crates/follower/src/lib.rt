@@ -2,3 +2,4 @@ pub mod follower;
 pub mod fraction;
 pub mod pair;
 mod row;
+pub mod theorems;

@@ -2,3 +2,5 @@ pub mod Following
 pub mod Rows
 pub mod Readout
 pub mod Within
+pub mod Modulo
+pub mod Fractions

@@ -19,7 +19,7 @@ use Rattle.rule.specs.declared.pair.AdmittedPair.{AdmittedPair}
 use Rattle.rule.proofs.Ring.{out, lin}
 use Rattle.rule.proofs.Parity.{odd-yes, odd-no, odd-double}
 use Rattle.rule.proofs.Sizes.{abs-mul, factor-most, left-some, pow-some}
-use Rattle.follower.specs.Cofactor.{Rows}
+use Rattle.follower.specs.Cofactor.{CofactorRows}
 use Rattle.follower.specs.Readout.{isNegative, negatedBy, alike, moved, cOf, isFar, isLess, uOf, vOf, Bezout}
 use Rattle.follower.proofs.Rows.{Fresh, Phase, Kept, rowsAt, kept-at}
 
@@ -131,7 +131,7 @@ v-small g x y q r u v e f o some-x some-y h s = by (natAbs r) refl
         v-small-far g (natAbs y) (natAbs x) (natAbs u) (natAbs v) some-y (omega (arith, z)) h (v-bound g x y u v s)
 
 -- ---- the end of a run
-not-fresh : (s : State ℤ) (r : Rows) → s .b ≡ pos 0 → 1 ≤ natAbs (r .y) → Phase s r → (odd (r .x) || odd (r .y)) ≡ true
+not-fresh : (s : State ℤ) (r : CofactorRows) → s .b ≡ pos 0 → 1 ≤ natAbs (r .y) → Phase s r → (odd (r .x) || odd (r .y)) ≡ true
 not-fresh s r z o (inl h) = h .1
 not-fresh s r z o (inr h) = absurd (let e = h .is-y in omega (arith, ints, e, z, o))
 
@@ -139,11 +139,11 @@ scaled-sum : (u v x y t a : ℤ) → u *ℤ x +ℤ v *ℤ y ≡ a → u *ℤ (x 
 scaled-sum u v x y t a e = simp (← e, out)
 
 -- what is known of u and v there, before the twos are put back
-record Bare (p : AdmittedPair) (s : State ℤ) (r : Rows) : Type 0 where
+record Bare (p : AdmittedPair) (s : State ℤ) (r : CofactorRows) : Type 0 where
   sum : uOf (s .a) r *ℤ r .x +ℤ vOf (s .a) r *ℤ r .y ≡ pos (natAbs (s .a))
   small-u : 2 * natAbs (uOf (s .a) r) ≤ natAbs (r .y)
 
-bare : (p : AdmittedPair) (s : State ℤ) (r : Rows) → Kept p s r → Bare p s r
+bare : (p : AdmittedPair) (s : State ℤ) (r : CofactorRows) → Kept p s r → Bare p s r
 bare p s r h =
     let m = isNegative (s .a) in
     let c = cOf (s .a) r in
@@ -152,7 +152,7 @@ bare p s r h =
       small-u = u-small (isFar (s .a) r) c (r .y) refl (omega (arith, h .size-c, negated-size m (r .c)));
     }
 
-bezout-there : (p : AdmittedPair) (s : State ℤ) (r : Rows) → s .b ≡ pos 0 → Kept p s r → Greatest (divisor s) (p .a) (p .b) → Bezout (p .a) (p .b) (divisor s) (uOf (s .a) r) (vOf (s .a) r)
+bezout-there : (p : AdmittedPair) (s : State ℤ) (r : CofactorRows) → s .b ≡ pos 0 → Kept p s r → Greatest (divisor s) (p .a) (p .b) → Bezout (p .a) (p .b) (divisor s) (uOf (s .a) r) (vOf (s .a) r)
 bezout-there p s r z h g =
     let b = bare p s r h in
     let t = 2 ^ s .twos in

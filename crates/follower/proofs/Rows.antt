@@ -24,16 +24,16 @@ use Rattle.rule.proofs.Ring.{out, lin, *ℤ-unit}
 use Rattle.rule.proofs.Parity.{odd-no, odd-double, Joins, joins, xor, parity}
 use Rattle.rule.proofs.Fuel.{after-more, told-more}
 use Rattle.follower.specs.Following.{turned, tableAt, FollowsTo, Follows}
-use Rattle.follower.specs.Cofactor.{Rows, firstRows, halvedPair, swapped, combined, corrected, evened, halvedRow, readied, inRange, rowFits, rowsTake, rowsTurn, RowsRelated, cofactorFirst, cofactorAccepts, cofactorTurns, CofactorRelated}
+use Rattle.follower.specs.Cofactor.{CofactorRows, firstRows, halvedPair, swapped, combined, corrected, evened, halvedRow, readied, inRange, rowFits, rowsTake, rowsTurn, CofactorRowsRelated, cofactorFirst, cofactorAccepts, cofactorTurns, CofactorRelated}
 use Rattle.follower.proofs.Following.{turned-more}
 
 -- ---- the values of the rows
-record Values (u z : ℤ) (r : Rows) : Type 0 where
+record Values (u z : ℤ) (r : CofactorRows) : Type 0 where
   first : r .c *ℤ r .x +ℤ r .d *ℤ r .y ≡ u
   second : r .e *ℤ r .x +ℤ r .f *ℤ r .y ≡ z
 
 -- to add y to e and take x from f changes no value
-values-corrected : (u z : ℤ) (r : Rows) (o : Bool) → Values u z r → Values u z (corrected o r)
+values-corrected : (u z : ℤ) (r : CofactorRows) (o : Bool) → Values u z r → Values u z (corrected o r)
 values-corrected u z r false h = record { first = h .first; second = h .second }
 values-corrected u z r true h = record { first = h .first; second = ident (r .e) (r .f) (r .x) (r .y) ∙ h .second }
   where
@@ -41,17 +41,17 @@ values-corrected u z r true h = record { first = h .first; second = ident (r .e)
     ident e f x y = simp out (omega (arith, lin))
 
 -- half of the second row has half its value
-values-halved : (u z w : ℤ) (r : Rows) → Values u z r → odd (r .e) ≡ false → odd (r .f) ≡ false → z ≡ w +ℤ w → Values u w (halvedRow r)
+values-halved : (u z w : ℤ) (r : CofactorRows) → Values u z r → odd (r .e) ≡ false → odd (r .f) ≡ false → z ≡ w +ℤ w → Values u w (halvedRow r)
 values-halved u z w r h p q e =
     record { first = h .first; second = ident (r .e) (r .f) (half (r .e)) (half (r .f)) (r .x) (r .y) (odd-no (r .e) p) (odd-no (r .f) q) (h .second ∙ e) }
   where
     ident : (e f i j x y : ℤ) → e ≡ i +ℤ i → f ≡ j +ℤ j → e *ℤ x +ℤ f *ℤ y ≡ w +ℤ w → i *ℤ x +ℤ j *ℤ y ≡ w
     ident e f i j x y p q r = omega (arith, lin, simp (p, q, out) at r)
 
-values-swapped : (u z : ℤ) (r : Rows) → Values u z r → Values z u (swapped true r)
+values-swapped : (u z : ℤ) (r : CofactorRows) → Values u z r → Values z u (swapped true r)
 values-swapped u z r h = record { first = h .second; second = h .first }
 
-values-combined : (u v : ℤ) (r : Rows) (g : Sign) → Values u v r → Values u (summed whole g u v) (combined g r)
+values-combined : (u v : ℤ) (r : CofactorRows) (g : Sign) → Values u v r → Values u (summed whole g u v) (combined g r)
 values-combined u v r g h = record { first = h .first; second = ident g (r .c) (r .d) (r .e) (r .f) (r .x) (r .y) (h .first) (h .second) }
   where
     ident : (g : Sign) (c d e f x y : ℤ) → c *ℤ x +ℤ d *ℤ y ≡ u → e *ℤ x +ℤ f *ℤ y ≡ v → summed whole g c e *ℤ x +ℤ summed whole g d f *ℤ y ≡ summed whole g u v
@@ -62,15 +62,15 @@ values-combined u v r g h = record { first = h .first; second = ident g (r .c) (
 evens : (a b p q : Bool) → xor (a && p) (b && q) ≡ false → (p || q) ≡ true → (a || b) ≡ true → (xor a q ≡ false) × (xor b p ≡ false)
 evens a b p q h k l = grind arith
 
-value-even : (r : Rows) (z : ℤ) → r .e *ℤ r .x +ℤ r .f *ℤ r .y ≡ z → odd z ≡ false → xor (odd (r .e) && odd (r .x)) (odd (r .f) && odd (r .y)) ≡ false
+value-even : (r : CofactorRows) (z : ℤ) → r .e *ℤ r .x +ℤ r .f *ℤ r .y ≡ z → odd z ≡ false → xor (odd (r .e) && odd (r .x)) (odd (r .f) && odd (r .y)) ≡ false
 value-even r z e f = simp parity at (ap odd e ∙ f)
 
-corrected-even : (r : Rows) (o : Bool) → (odd (r .e) || odd (r .f)) ≡ o → xor (odd (r .e) && odd (r .x)) (odd (r .f) && odd (r .y)) ≡ false → (odd (r .x) || odd (r .y)) ≡ true
+corrected-even : (r : CofactorRows) (o : Bool) → (odd (r .e) || odd (r .f)) ≡ o → xor (odd (r .e) && odd (r .x)) (odd (r .f) && odd (r .y)) ≡ false → (odd (r .x) || odd (r .y)) ≡ true
     → (odd (corrected o r .e) ≡ false) × (odd (corrected o r .f) ≡ false)
 corrected-even r false e h k = or-parts (odd (r .e)) (odd (r .f)) e
 corrected-even r true e h k = simp parity (evens (odd (r .e)) (odd (r .f)) (odd (r .x)) (odd (r .y)) h k e)
 
-corrected-size : (E F : ℕ) (r : Rows) (o : Bool) → natAbs (r .e) ≤ E → natAbs (r .f) ≤ F → (natAbs (corrected o r .e) ≤ E + natAbs (r .y)) × (natAbs (corrected o r .f) ≤ F + natAbs (r .x))
+corrected-size : (E F : ℕ) (r : CofactorRows) (o : Bool) → natAbs (r .e) ≤ E → natAbs (r .f) ≤ F → (natAbs (corrected o r .e) ≤ E + natAbs (r .y)) × (natAbs (corrected o r .f) ≤ F + natAbs (r .x))
 corrected-size E F r false i j = (omega arith, omega arith)
 corrected-size E F r true i j = (omega (arith, ints), omega (arith, ints))
 
@@ -78,14 +78,14 @@ half-size : (z : ℤ) (H : ℕ) → odd z ≡ false → natAbs z ≤ H → 2 * n
 half-size z H e h = omega (arith, ints, odd-no z e)
 
 -- ---- what halving does to rows whose second has an even value
-record Halving (E F : ℕ) (u w : ℤ) (r : Rows) : Type 0 where
+record Halving (E F : ℕ) (u w : ℤ) (r : CofactorRows) : Type 0 where
   even-e : odd (evened r .e) ≡ false
   even-f : odd (evened r .f) ≡ false
   values : Values u w (halvedRow (evened r))
   size-e : 2 * natAbs (half (evened r .e)) ≤ E + natAbs (r .y)
   size-f : 2 * natAbs (half (evened r .f)) ≤ F + natAbs (r .x)
 
-halving : (E F : ℕ) (u z w : ℤ) (r : Rows) → Values u z r → z ≡ w +ℤ w → (odd (r .x) || odd (r .y)) ≡ true → natAbs (r .e) ≤ E → natAbs (r .f) ≤ F → Halving E F u w r
+halving : (E F : ℕ) (u z w : ℤ) (r : CofactorRows) → Values u z r → z ≡ w +ℤ w → (odd (r .x) || odd (r .y)) ≡ true → natAbs (r .e) ≤ E → natAbs (r .f) ≤ F → Halving E F u w r
 halving E F u z w r h e o k l =
     let v = corrected-even r (odd (r .e) || odd (r .f)) refl (value-even r z (h .second) (odd-double z w e)) o in
     let g = corrected-size E F r (odd (r .e) || odd (r .f)) k l in
@@ -102,7 +102,7 @@ summed-size Plus x y H h k = omega (arith, ints)
 summed-size Minus x y H h k = omega (arith, ints)
 
 -- plus or minus of rows whose values are odd
-joining : (E F : ℕ) (u v w : ℤ) (r : Rows) (q : Bool) → Joins u v w q → Values u v r → (odd (r .x) || odd (r .y)) ≡ true
+joining : (E F : ℕ) (u v w : ℤ) (r : CofactorRows) (q : Bool) → Joins u v w q → Values u v r → (odd (r .x) || odd (r .y)) ≡ true
     → 2 * natAbs (r .c) ≤ E → 2 * natAbs (r .d) ≤ F → 2 * natAbs (r .e) ≤ E → 2 * natAbs (r .f) ≤ F
     → Halving E F u w (combined (signBy q) r)
 joining E F u v w r q j h o kc kd ke kf =
@@ -117,13 +117,13 @@ in-range n z h =
     let r : ltZ z (pos (2 ^ (n + 2))) ≡ true = sym (omega (arith, ints)) in
     and-from _ _ l r
 
-row-fits : (E F : ℕ) (u w : ℤ) (r : Rows) → natAbs (r .x) ≤ 2 ^ r .n → natAbs (r .y) ≤ 2 ^ r .n → E ≤ 3 * 2 ^ r .n → F ≤ 3 * 2 ^ r .n → Halving E F u w r → rowFits (evened r) ≡ true
+row-fits : (E F : ℕ) (u w : ℤ) (r : CofactorRows) → natAbs (r .x) ≤ 2 ^ r .n → natAbs (r .y) ≤ 2 ^ r .n → E ≤ 3 * 2 ^ r .n → F ≤ 3 * 2 ^ r .n → Halving E F u w r → rowFits (evened r) ≡ true
 row-fits E F u w r i j k l h =
     and-from _ _ (and-from _ _ (and-from _ _ (ap not (h .even-e)) (ap not (h .even-f))) (in-range (r .n) _ (omega (arith, h .size-e)))) (in-range (r .n) _ (omega (arith, h .size-f)))
 
 -- ---- what the follower keeps
 -- before any command but B: the rows are 1, 0 and 0, 1, and the pair is where the rule stands
-pub record Fresh (s : State ℤ) (r : Rows) : Type 0 where
+pub record Fresh (s : State ℤ) (r : CofactorRows) : Type 0 where
   pub is-x : r .x ≡ s .a
   pub is-y : r .y ≡ s .b
   pub is-c : r .c ≡ pos 1
@@ -131,13 +131,13 @@ pub record Fresh (s : State ℤ) (r : Rows) : Type 0 where
   pub is-e : r .e ≡ pos 0
   pub is-f : r .f ≡ pos 1
 
-abbrev pub Phase : State ℤ → Rows → Type 0
+abbrev pub Phase : State ℤ → CofactorRows → Type 0
 Phase s r = ((odd (s .a) ≡ true) × ((odd (r .x) || odd (r .y)) ≡ true)) ⊎ Fresh s r
 
 -- c and e are held by y, d and f by 2^n; a little tighter while b is odd
-pub record Kept (p : AdmittedPair) (s : State ℤ) (r : Rows) : Type 0 where
+pub record Kept (p : AdmittedPair) (s : State ℤ) (r : CofactorRows) : Type 0 where
   pub order : r .n ≡ orderOf p
-  pub values : RowsRelated p r s
+  pub values : CofactorRowsRelated p r s
   pub some-y : 1 ≤ natAbs (r .y)
   pub size-x : natAbs (r .x) ≤ 2 ^ r .n
   pub size-y : natAbs (r .y) ≤ 2 ^ r .n
@@ -149,11 +149,11 @@ pub record Kept (p : AdmittedPair) (s : State ℤ) (r : Rows) : Type 0 where
   pub phase : Phase s r
 
 -- while any command but B comes, x or y is odd
-some-odd : (s : State ℤ) (r : Rows) → (odd (s .a) || odd (s .b)) ≡ true → Phase s r → (odd (r .x) || odd (r .y)) ≡ true
+some-odd : (s : State ℤ) (r : CofactorRows) → (odd (s .a) || odd (s .b)) ≡ true → Phase s r → (odd (r .x) || odd (r .y)) ≡ true
 some-odd s r o (inl h) = h .1
 some-odd s r o (inr h) = rw (h .is-x, h .is-y) o
 
-fresh : (s : State ℤ) (r : Rows) → odd (s .a) ≡ false → Phase s r → Fresh s r
+fresh : (s : State ℤ) (r : CofactorRows) → odd (s .a) ≡ false → Phase s r → Fresh s r
 fresh s r e (inl h) = absurd (both-ways (odd (s .a)) e (h .0))
 fresh s r e (inr h) = h
 
@@ -172,13 +172,13 @@ half-scaled z h t w e f = ident (pos (2 ^ t)) (pos (2 ^ suc t)) (ap pos (omega a
     ident : (u v : ℤ) → v ≡ u +ℤ u → h *ℤ v ≡ z *ℤ u
     ident u v g = simp (e, g, out)
 
-values-of : (p : AdmittedPair) (s : State ℤ) (r : Rows) → RowsRelated p r s → Values (s .a) (s .b) r
+values-of : (p : AdmittedPair) (s : State ℤ) (r : CofactorRows) → CofactorRowsRelated p r s → Values (s .a) (s .b) r
 values-of p s r h = record { first = h .first; second = h .second }
 
-abbrev Goes : AdmittedPair → Command → State ℤ → Rows → Type 0
+abbrev Goes : AdmittedPair → Command → State ℤ → CofactorRows → Type 0
 Goes p k s r = (rowsTake r k ≡ true) × Kept p (obeyed whole k s) (rowsTurn r k)
 
-goes-by : (p : AdmittedPair) (s : State ℤ) (r : Rows) (i j q z : Bool) → odd (s .a) ≡ i → odd (s .b) ≡ j → fourfold (s .a +ℤ s .b) ≡ q → Kept p s r → Goes p (commandBy i j q z) s r
+goes-by : (p : AdmittedPair) (s : State ℤ) (r : CofactorRows) (i j q z : Bool) → odd (s .a) ≡ i → odd (s .b) ≡ j → fourfold (s .a +ℤ s .b) ≡ q → Kept p s r → Goes p (commandBy i j q z) s r
 goes-by p s r false false q z a b g h =
     let w = fresh s r a (h .phase) in
     let even-x = odd-no (r .x) (ap odd (w .is-x) ∙ a) in
@@ -281,7 +281,7 @@ goes-by p s r true true q true a b g h =
       },
     )
 
-goes : (p : AdmittedPair) (s : State ℤ) (r : Rows) → Kept p s r → Goes p (command whole s) s r
+goes : (p : AdmittedPair) (s : State ℤ) (r : CofactorRows) → Kept p s r → Goes p (command whole s) s r
 unfolding command
 goes p s r h = goes-by p s r (odd (s .a)) (odd (s .b)) (fourfold (s .a +ℤ s .b)) (leZ (pos 0) (s .δ)) refl refl refl h
 
@@ -307,7 +307,7 @@ kept-start p =
     some y n = omega (arith, ints)
 
 -- the rows after k commands of the run
-abbrev pub rowsAt : AdmittedPair → ℕ → Rows
+abbrev pub rowsAt : AdmittedPair → ℕ → CofactorRows
 rowsAt p k = turned rowsTurn (firstRows p) (told whole k (startOf p))
 
 rows-more : (p : AdmittedPair) (k : ℕ) → rowsAt p (suc k) ≡ rowsTurn (rowsAt p k) (command whole (after whole k (startOf p)))
@@ -319,7 +319,7 @@ kept-at p zero = kept-start p
 kept-at p (suc k) = subst₂ (Kept p) (sym (after-more whole k (startOf p))) (sym (rows-more p k)) (goes p (after whole k (startOf p)) (rowsAt p k) (kept-at p k) .1)
 
 -- ---- the follower, whose table is its rows once it is begun
-table-at : (r : Rows) (cs : List Command) → turned cofactorTurns (Some r) cs ≡ Some (turned rowsTurn r cs)
+table-at : (r : CofactorRows) (cs : List Command) → turned cofactorTurns (Some r) cs ≡ Some (turned rowsTurn r cs)
 unfolding turned
 table-at r [] = refl
 table-at r (c ∷ cs) = table-at (rowsTurn r c) cs

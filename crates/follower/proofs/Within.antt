@@ -12,21 +12,21 @@ use Rattle.rule.specs.Whole.{odd, half}
 use Rattle.rule.specs.declared.command.Sign.{Sign}
 use Rattle.rule.specs.declared.command.Sign.the-variants.{Plus, Minus}
 use Rattle.rule.proofs.Parity.{odd-no}
-use Rattle.follower.specs.Cofactor.{Rows, halvedPair, swapped, combined, evened, halvedRow, inRange, rowFits}
+use Rattle.follower.specs.Cofactor.{CofactorRows, halvedPair, swapped, combined, evened, halvedRow, inRange, rowFits}
 use Rattle.follower.specs.Entries.{Within}
 
-pub within-swapped : (x : Bool) (r : Rows) → Within (2 ^ 58) r → Within (2 ^ 58) (swapped x r)
+pub within-swapped : (x : Bool) (r : CofactorRows) → Within (2 ^ 58) r → Within (2 ^ 58) (swapped x r)
 within-swapped false r h = h
 within-swapped true r h = record { pair = h .pair; rows = (h .rows .2, h .rows .3, h .rows .0, h .rows .1) }
 
-pub within-combined : (g : Sign) (r : Rows) → Within (2 ^ 58) r → Within (2 ^ 59) (combined g r)
+pub within-combined : (g : Sign) (r : CofactorRows) → Within (2 ^ 58) r → Within (2 ^ 59) (combined g r)
 within-combined Plus r h = record { pair = h .pair; rows = (h .rows .0, h .rows .1, omega (arith, ints, h .rows .0, h .rows .2), omega (arith, ints, h .rows .1, h .rows .3)) }
 within-combined Minus r h = record { pair = h .pair; rows = (h .rows .0, h .rows .1, omega (arith, ints, h .rows .0, h .rows .2), omega (arith, ints, h .rows .1, h .rows .3)) }
 
-pub within-more : (r : Rows) → Within (2 ^ 58) r → Within (2 ^ 59) r
+pub within-more : (r : CofactorRows) → Within (2 ^ 58) r → Within (2 ^ 59) r
 within-more r h = record { pair = h .pair; rows = (h .rows .0, h .rows .1, omega (arith, h .rows .2), omega (arith, h .rows .3)) }
 
-pub within-halved-pair : (r : Rows) → (not (odd (r .x)) && not (odd (r .y))) ≡ true → Within (2 ^ 58) r → Within (2 ^ 58) (halvedPair r)
+pub within-halved-pair : (r : CofactorRows) → (not (odd (r .x)) && not (odd (r .y))) ≡ true → Within (2 ^ 58) r → Within (2 ^ 58) (halvedPair r)
 within-halved-pair r t h =
     let w = and-parts _ _ t in
     let e = odd-no (r .x) (not-true (odd (r .x)) (w .0)) in
@@ -40,7 +40,7 @@ range-size n z l e =
     let p : 2 ^ (n + 2) ≤ 2 ^ 58 = pow-mono m in
     omega (arith, ints, w .0, w .1, p)
 
-pub within-settled : (r : Rows) → r .n ≤ 56 → rowFits (evened r) ≡ true → Within (2 ^ 59) r → Within (2 ^ 58) (halvedRow (evened r))
+pub within-settled : (r : CofactorRows) → r .n ≤ 56 → rowFits (evened r) ≡ true → Within (2 ^ 59) r → Within (2 ^ 58) (halvedRow (evened r))
 within-settled r l e h =
     let w = and-parts _ _ e in
     let v = and-parts _ _ (w .0) in

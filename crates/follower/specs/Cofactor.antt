@@ -16,7 +16,7 @@ use Rattle.rule.specs.declared.command.Command.the-variants.{Both, Cross, Shift
 use Rattle.rule.specs.declared.pair.AdmittedPair.{AdmittedPair}
 
 -- The first row c, d and the second row e, f; the order n; and x, y, the pair without the twos told so far.
-pub record Rows : Type 0 where
+pub record CofactorRows : Type 0 where
   pub n : ℕ
   pub x : ℤ
   pub y : ℤ
@@ -25,36 +25,36 @@ pub record Rows : Type 0 where
   pub e : ℤ
   pub f : ℤ
 
-abbrev pub firstRows : AdmittedPair → Rows
+abbrev pub firstRows : AdmittedPair → CofactorRows
 firstRows p = record { n = orderOf p; x = p .a; y = p .b; c = pos 1; d = pos 0; e = pos 0; f = pos 1 }
 
 -- x and y are halved.
-abbrev pub halvedPair : Rows → Rows
+abbrev pub halvedPair : CofactorRows → CofactorRows
 halvedPair r = record { n = r .n; x = half (r .x); y = half (r .y); c = r .c; d = r .d; e = r .e; f = r .f }
 
 -- The rows change places where the mark is set.
-abbrev pub swapped : Bool → Rows → Rows
+abbrev pub swapped : Bool → CofactorRows → CofactorRows
 swapped false r = r
 swapped true r = record { n = r .n; x = r .x; y = r .y; c = r .e; d = r .f; e = r .c; f = r .d }
 
 -- The second row becomes the first plus or minus the second.
-abbrev pub combined : Sign → Rows → Rows
+abbrev pub combined : Sign → CofactorRows → CofactorRows
 combined g r = record { n = r .n; x = r .x; y = r .y; c = r .c; d = r .d; e = summed whole g (r .c) (r .e); f = summed whole g (r .d) (r .f) }
 
 -- y is added to e and x taken from f where the mark is set.
-abbrev pub corrected : Bool → Rows → Rows
+abbrev pub corrected : Bool → CofactorRows → CofactorRows
 corrected o r = record { n = r .n; x = r .x; y = r .y; c = r .c; d = r .d; e = cond o (r .e +ℤ r .y) (r .e); f = cond o (r .f -ℤ r .x) (r .f) }
 
 -- The second row is corrected if one of its entries is odd.
-abbrev pub evened : Rows → Rows
+abbrev pub evened : CofactorRows → CofactorRows
 evened r = corrected (odd (r .e) || odd (r .f)) r
 
 -- The second row is halved.
-abbrev pub halvedRow : Rows → Rows
+abbrev pub halvedRow : CofactorRows → CofactorRows
 halvedRow r = record { n = r .n; x = r .x; y = r .y; c = r .c; d = r .d; e = half (r .e); f = half (r .f) }
 
 -- The rows that a command makes ready for halving the second.
-abbrev pub readied : Command → Rows → Rows
+abbrev pub readied : Command → CofactorRows → CofactorRows
 readied Both r = r
 readied Cross r = evened (swapped true r)
 readied Shift r = evened r
@@ -65,40 +65,40 @@ abbrev pub inRange : ℕ → ℤ → Bool
 inRange n z = leZ (negℤ (pos (2 ^ (n + 2)))) z && ltZ z (pos (2 ^ (n + 2)))
 
 -- Both entries of the second row are even, and in range once halved.
-abbrev pub rowFits : Rows → Bool
+abbrev pub rowFits : CofactorRows → Bool
 rowFits r = not (odd (r .e)) && not (odd (r .f)) && inRange (r .n) (half (r .e)) && inRange (r .n) (half (r .f))
 
-abbrev pub rowsTake : Rows → Command → Bool
+abbrev pub rowsTake : CofactorRows → Command → Bool
 rowsTake r Both = not (odd (r .x)) && not (odd (r .y))
 rowsTake r Cross = rowFits (readied Cross r)
 rowsTake r Shift = rowFits (readied Shift r)
 rowsTake r (PlusMinus g x) = rowFits (readied (PlusMinus g x) r)
 
-abbrev pub rowsTurn : Rows → Command → Rows
+abbrev pub rowsTurn : CofactorRows → Command → CofactorRows
 rowsTurn r Both = halvedPair r
 rowsTurn r Cross = halvedRow (readied Cross r)
 rowsTurn r Shift = halvedRow (readied Shift r)
 rowsTurn r (PlusMinus g x) = halvedRow (readied (PlusMinus g x) r)
 
 -- c·x + d·y = a and e·x + f·y = b, and x and y times 2^twos are the pair.
-pub record RowsRelated (p : AdmittedPair) (r : Rows) (s : State ℤ) : Type 0 where
+pub record CofactorRowsRelated (p : AdmittedPair) (r : CofactorRows) (s : State ℤ) : Type 0 where
   pub first : r .c *ℤ r .x +ℤ r .d *ℤ r .y ≡ s .a
   pub second : r .e *ℤ r .x +ℤ r .f *ℤ r .y ≡ s .b
   pub of-a : r .x *ℤ pos (2 ^ s .twos) ≡ p .a
   pub of-b : r .y *ℤ pos (2 ^ s .twos) ≡ p .b
 
 -- The same of a follower, which holds no rows before it is begun.
-abbrev pub cofactorFirst : AdmittedPair → Option Rows
+abbrev pub cofactorFirst : AdmittedPair → Option CofactorRows
 cofactorFirst p = Some (firstRows p)
 
-abbrev pub cofactorAccepts : Option Rows → Command → Bool
+abbrev pub cofactorAccepts : Option CofactorRows → Command → Bool
 cofactorAccepts None c = false
 cofactorAccepts (Some r) c = rowsTake r c
 
-abbrev pub cofactorTurns : Option Rows → Command → Option Rows
+abbrev pub cofactorTurns : Option CofactorRows → Command → Option CofactorRows
 cofactorTurns None c = None
 cofactorTurns (Some r) c = Some (rowsTurn r c)
 
-abbrev pub CofactorRelated : AdmittedPair → Option Rows → State ℤ → Type 0
+abbrev pub CofactorRelated : AdmittedPair → Option CofactorRows → State ℤ → Type 0
 CofactorRelated p None s = ⊥
-CofactorRelated p (Some r) s = RowsRelated p r s
+CofactorRelated p (Some r) s = CofactorRowsRelated p r s

@@ -1,5 +1,7 @@
 pub mod Following
 pub mod Cofactor
-pub mod Readout
 pub mod Entries
 pub mod CofactorTable
+pub mod Readout
+pub mod Fraction
+pub mod FractionTable

@@ -7,7 +7,7 @@ use lib.IntN.{ℤ, pos, _+ℤ_, _-ℤ_, _*ℤ_, negℤ, natAbs}
 use lib.Signed.{ltZ}
 use Rattle.std.specs.declared.option.Option.{Option}
 use Rattle.std.specs.declared.option.Option.the-variants.{Some, None}
-use Rattle.follower.specs.Cofactor.{Rows}
+use Rattle.follower.specs.Cofactor.{CofactorRows}
 use Rattle.follower.specs.declared.entries.Cofactors.{Cofactors}
 
 abbrev pub isNegative : ℤ → Bool
@@ -30,21 +30,21 @@ moved true true z w = z -ℤ w
 moved true false z w = z +ℤ w
 
 -- c as it goes with the sign of a, and whether twice its size is above that of y.
-abbrev pub cOf : ℤ → Rows → ℤ
+abbrev pub cOf : ℤ → CofactorRows → ℤ
 cOf a r = negatedBy (isNegative a) (r .c)
 
-abbrev pub isFar : ℤ → Rows → Bool
+abbrev pub isFar : ℤ → CofactorRows → Bool
 isFar a r = ltb (natAbs (r .y)) (2 * natAbs (cOf a r))
 
 -- Whether y has to be taken from c, to bring c towards zero, and not added.
-abbrev pub isLess : ℤ → Rows → Bool
+abbrev pub isLess : ℤ → CofactorRows → Bool
 isLess a r = alike (isNegative (cOf a r)) (isNegative (r .y))
 
 -- The cofactors: c and d with the sign of a, moved once by y and x if c is far.
-abbrev pub uOf : ℤ → Rows → ℤ
+abbrev pub uOf : ℤ → CofactorRows → ℤ
 uOf a r = moved (isFar a r) (isLess a r) (cOf a r) (r .y)
 
-abbrev pub vOf : ℤ → Rows → ℤ
+abbrev pub vOf : ℤ → CofactorRows → ℤ
 vOf a r = moved (isFar a r) (isLess a r) (negatedBy (isNegative a) (r .d)) (negℤ (r .x))
 
 -- u and v are cofactors of g for a and b, and small where a is not 0.
@@ -54,6 +54,6 @@ pub record Bezout (a b : ℤ) (g : ℕ) (u v : ℤ) : Type 0 where
   pub small-v : (a ≡ pos 0 → ⊥) → 2 * natAbs v ≤ natAbs a + 1
 
 -- The cofactors of a follower that has been told a run which ended with a; a follower that is not begun has none.
-abbrev pub cofactorsAt : ℤ → Option Rows → Option Cofactors
+abbrev pub cofactorsAt : ℤ → Option CofactorRows → Option Cofactors
 cofactorsAt a None = None
 cofactorsAt a (Some r) = Some (record { u = uOf a r; v = vOf a r })

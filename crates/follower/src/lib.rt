@@ -1,4 +1,7 @@
 pub mod cofactor;
 mod entries;
 pub mod follower;
+pub mod fraction;
 pub mod pair;
+mod row;
+pub mod theorems;

@@ -2,7 +2,7 @@
 ghost use mathlib.Core.Path.{_≡_};
 ghost use Rattle.std.specs.declared.option.Option.{Option as Perhaps};
 ghost use Rattle.std.specs.declared.option.Option.the-variants.{None};
-ghost use Rattle.follower.specs.Cofactor.{Rows, cofactorFirst, cofactorAccepts, cofactorTurns, CofactorRelated};
+ghost use Rattle.follower.specs.Cofactor.{CofactorRows, cofactorFirst, cofactorAccepts, cofactorTurns, CofactorRelated};
 ghost use Rattle.follower.specs.CofactorTable.{cofactorTable, Turned};
 ghost use Rattle.follower.specs.Entries.{rowsOf};
 ghost use Rattle.follower.specs.Readout.{cofactorsAt};
@@ -47,7 +47,7 @@ impl Cofactor {
 }
 
 pub impl Follower for Cofactor as CofactorFollower {
-    ghost Table = { Perhaps Rows };
+    ghost Table = { Perhaps CofactorRows };
 
     ghost table = { cofactorTable };
 

@@ -23,7 +23,9 @@ use Rattle.rule.proofs.Fuel.{after-more, told-more}
 use Rattle.rule.proofs.Whole.{zero-yes}
 use Rattle.rule.proofs.Divisor.{divisor-greatest}
 use Rattle.follower.specs.Following.{turned, tableAt, Follows}
-use Rattle.follower.specs.Fraction.{modulus, sumIn, columnsExchanged, columnDoubled, columnsCombined, rowAfter, FractionRows, Kept, fractionFirst, fractionAccepts, fractionTurns, Same, RowRelated, FractionRelated, readSigned, negatedBy, numeratorOf, denominatorOf, Reduced, ReadsReduced, TableReduced, Fraction-reduced}
+use Rattle.follower.specs.Signs.{isNegative, negatedBy}
+use Rattle.follower.proofs.Negated.{negated-size}
+use Rattle.follower.specs.Fraction.{modulus, sumIn, columnsExchanged, columnDoubled, columnsCombined, rowAfter, FractionRows, Kept, fractionFirst, fractionAccepts, fractionTurns, Same, RowRelated, FractionRelated, readSigned, numeratorOf, denominatorOf, Reduced, ReadsReduced, TableReduced, Fraction-reduced}
 use Rattle.follower.specs.declared.row.Row.{Row}
 use Rattle.follower.proofs.Following.{turned-more}
 use Rattle.follower.proofs.Modulo.{same-refl, same-add, same-mul, sum-same, difference-same, modulus-many, read-is}
@@ -256,20 +258,16 @@ negated-crossed : (b : Bool) (i j x y : ℤ) → i *ℤ y ≡ j *ℤ x → negat
 negated-crossed false i j x y e = e
 negated-crossed true i j x y e = neg-*ℤ i y ∙ ap negℤ e ∙ sym (neg-*ℤ j x)
 
-negated-size : (b : Bool) (i : ℤ) → natAbs (negatedBy b i) ≡ natAbs i
-negated-size false i = refl
-negated-size true i = omega (arith, ints)
-
 negated-divides : (b : Bool) (d i : ℤ) → Divides d (negatedBy b i) → Divides d i
 negated-divides false d i h = h
 negated-divides true d i h = record { quotient = negℤ (h .quotient); exact = sym (neg-neg i) ∙ ap negℤ (h .exact) ∙ sym (*ℤ-neg d (h .quotient)) }
 
-negated-above : (b : Bool) (j : ℤ) → ltZ j (pos 0) ≡ b → (j ≡ pos 0 → ⊥) → pos 0 <ℤ negatedBy b j
+negated-above : (b : Bool) (j : ℤ) → isNegative j ≡ b → (j ≡ pos 0 → ⊥) → pos 0 <ℤ negatedBy b j
 negated-above true j e some = omega (arith, ints)
 negated-above false j e some = omega (arith, ints)
 
 -- ---- the read-out
-lowest : (x y i j : ℤ) (s : State ℤ) (b : Bool) → ltZ j (pos 0) ≡ b → (y ≡ pos 0 → ⊥) → s .a *ℤ pos (2 ^ s .twos) *ℤ i ≡ x → s .a *ℤ pos (2 ^ s .twos) *ℤ j ≡ y
+lowest : (x y i j : ℤ) (s : State ℤ) (b : Bool) → isNegative j ≡ b → (y ≡ pos 0 → ⊥) → s .a *ℤ pos (2 ^ s .twos) *ℤ i ≡ x → s .a *ℤ pos (2 ^ s .twos) *ℤ j ≡ y
     → Greatest (divisor s) x y → Reduced x y (negatedBy b i) (negatedBy b j)
 lowest x y i j s b f some e e′ g =
     let k = s .a *ℤ pos (2 ^ s .twos) in
@@ -303,14 +301,14 @@ reads-reduced p t s b g h =
     (lowest (p .a) (p .b) (u .i) (v .i) s (ltZ (v .i) (pos 0)) refl (p .admitted .2) (u .whole) (v .whole) g)
   where
     by : (i j : ℤ) → readSigned (t .order) (t .first .left) ≡ i → readSigned (t .order) (t .second .left) ≡ j → natAbs i < 2 ^ orderOf p → natAbs j < 2 ^ orderOf p
-        → Reduced (p .a) (p .b) (negatedBy (ltZ j (pos 0)) i) (negatedBy (ltZ j (pos 0)) j) → ReadsReduced p t
+        → Reduced (p .a) (p .b) (negatedBy (isNegative j) i) (negatedBy (isNegative j) j) → ReadsReduced p t
     by i j e f l m r =
-        let nu : negatedBy (ltZ j (pos 0)) i ≡ numeratorOf t = ap₂ (λ x y. negatedBy (ltZ y (pos 0)) x) (sym e) (sym f) in
-        let de : negatedBy (ltZ j (pos 0)) j ≡ denominatorOf t = ap (λ y. negatedBy (ltZ y (pos 0)) y) (sym f) in
+        let nu : negatedBy (isNegative j) i ≡ numeratorOf t = ap₂ (λ x y. negatedBy (isNegative y) x) (sym e) (sym f) in
+        let de : negatedBy (isNegative j) j ≡ denominatorOf t = ap (λ y. negatedBy (isNegative y) y) (sym f) in
         record {
           reduced = subst₂ (Reduced (p .a) (p .b)) nu de r;
-          numerator = subst (Below (orderOf p)) nu (omega (arith, l, negated-size (ltZ j (pos 0)) i));
-          denominator = subst (Below (orderOf p)) de (omega (arith, m, negated-size (ltZ j (pos 0)) j));
+          numerator = subst (Below (orderOf p)) nu (omega (arith, l, negated-size (isNegative j) i));
+          denominator = subst (Below (orderOf p)) de (omega (arith, m, negated-size (isNegative j) j));
         }
 
 track-reduced : (p : AdmittedPair) (t : Option FractionRows) (s : State ℤ) → s .b ≡ pos 0 → Greatest (divisor s) (p .a) (p .b) → Track p t s → TableReduced p t

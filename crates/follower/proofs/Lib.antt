@@ -1,3 +1,4 @@
+pub mod Negated
 pub mod Following
 pub mod Rows
 pub mod Readout

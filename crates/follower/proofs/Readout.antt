@@ -14,13 +14,17 @@ use Rattle.std.proofs.shelf.Tests.{cases-bool, both-ways, ltb-true, ltb-false}
 use Rattle.rule.specs.Divisor.{Divides, Greatest, divisor}
 use Rattle.rule.specs.Pairs.{orderOf, startOf}
 use Rattle.rule.specs.Rule.{State, after, Need}
-use Rattle.rule.specs.Whole.{odd, half, whole}
+use Rattle.rule.specs.Whole.{odd, half, whole, Below}
 use Rattle.rule.specs.declared.pair.AdmittedPair.{AdmittedPair}
+use Rattle.rule.proofs.Divisor.{divisor-greatest, greatest-most}
 use Rattle.rule.proofs.Ring.{out, lin}
+use Rattle.rule.proofs.Whole.{zero-yes}
 use Rattle.rule.proofs.Parity.{odd-yes, odd-no, odd-double}
-use Rattle.rule.proofs.Sizes.{abs-mul, factor-most, left-some, pow-some}
+use Rattle.rule.proofs.Sizes.{abs-mul, factor-most, left-some, right-some, pow-some}
+use Rattle.follower.specs.Signs.{isNegative, negatedBy}
+use Rattle.follower.proofs.Negated.{negated-size}
 use Rattle.follower.specs.Cofactor.{CofactorRows}
-use Rattle.follower.specs.Readout.{isNegative, negatedBy, alike, moved, cOf, isFar, isLess, uOf, vOf, Bezout}
+use Rattle.follower.specs.Readout.{alike, moved, cOf, isFar, isLess, uOf, vOf, Bezout}
 use Rattle.follower.proofs.Rows.{Fresh, Phase, Kept, rowsAt, kept-at}
 
 -- ---- the sum
@@ -44,10 +48,6 @@ moved-near false false c y e f l h = omega (arith, ints)
 u-small : (p : Bool) (c y : ℤ) → ltb (natAbs y) (2 * natAbs c) ≡ p → 2 * natAbs c ≤ 3 * natAbs y → 2 * natAbs (moved p (alike (isNegative c) (isNegative y)) c y) ≤ natAbs y
 u-small false c y e h = omega (arith, ltb-false (natAbs y) (2 * natAbs c) e)
 u-small true c y e h = moved-near (isNegative c) (isNegative y) c y refl refl (ltb-true (natAbs y) (2 * natAbs c) e) h
-
-negated-size : (m : Bool) (c : ℤ) → natAbs (negatedBy m c) ≡ natAbs c
-negated-size true c = omega (arith, ints)
-negated-size false c = refl
 
 -- ---- the size of v, from u·x + v·y = g and the size of u
 -- twice |v| times |y| is at most 2g + 2|u||x|
@@ -179,3 +179,25 @@ v-fits n g x y u v o l some low h e =
     let k = le-of-mul-le-mul-right {m = 2 * natAbs v} {n = 2 + natAbs x} {k = natAbs y} t some in
     let two : 2 ≤ 2 ^ n = pow-mono o in
     omega (arith, k)
+
+-- twice u is at most |y|, and so both u and v are below 2^n
+pub cofactors-fit : (p : AdmittedPair) (m : ℕ) → Need whole (startOf p) m → let s = after whole m (startOf p) in Below (orderOf p) (uOf (s .a) (rowsAt p m)) × Below (orderOf p) (vOf (s .a) (rowsAt p m))
+cofactors-fit p m need =
+    let s = after whole m (startOf p) in
+    let r = rowsAt p m in
+    let h = kept-at p m in
+    let b = bare p s r h in
+    let g = natAbs (s .a) in
+    let size-x = factor-most (r .x) (pos (2 ^ s .twos)) (p .a) (h .values .of-a) (pow-some (s .twos)) in
+    let size-y = factor-most (r .y) (pos (2 ^ s .twos)) (p .b) (h .values .of-b) (pow-some (s .twos)) in
+    let d = divisor-greatest (p .a) (p .b) (p .admitted .2) m need .divides-y in
+    let f = divides-bare g (2 ^ s .twos) (r .y) (p .b) (pow-pos (s .twos)) (h .values .of-b) d in
+    let some-y = some (r .y) (h .some-y) in
+    let low = factor-most (pos g) (d .quotient) (r .y) (sym f) (right-some (pos g) (d .quotient) (r .y) (sym f) some-y) in
+    (omega (arith, b .small-u, size-y, p .admitted .1), v-fits (orderOf p) g (r .x) (r .y) (uOf (s .a) r) (vOf (s .a) r) (p .order .admitted .0) (omega (arith, size-x, p .admitted .0)) (h .some-y) low (b .small-u) (b .sum))
+  where
+    some : (y : ℤ) → 1 ≤ natAbs y → y ≡ pos 0 → ⊥
+    some y l e = omega (arith, ints, l, e)
+
+pub bezout : (p : AdmittedPair) (m : ℕ) → Need whole (startOf p) m → let s = after whole m (startOf p) in Bezout (p .a) (p .b) (divisor s) (uOf (s .a) (rowsAt p m)) (vOf (s .a) (rowsAt p m))
+bezout p m need = bezout-there p (after whole m (startOf p)) (rowsAt p m) (zero-yes _ (need .over)) (kept-at p m) (divisor-greatest (p .a) (p .b) (p .admitted .2) m need)

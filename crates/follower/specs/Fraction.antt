@@ -4,7 +4,7 @@ use mathlib.Core.Path.{_≡_}
 use mathlib.Core.Bool.{Bool, true, false, cond}
 use lib.Dec.{ltb}
 use lib.IntN.{ℤ, pos, _+ℤ_, _-ℤ_, _*ℤ_, negℤ}
-use lib.Signed.{ltZ, _<ℤ_}
+use lib.Signed.{_<ℤ_}
 use Rattle.std.specs.declared.option.Option.{Option}
 use Rattle.std.specs.declared.option.Option.the-variants.{Some, None}
 use Rattle.rule.specs.Divisor.{Divides}
@@ -17,6 +17,7 @@ use Rattle.rule.specs.declared.command.Sign.{Sign}
 use Rattle.rule.specs.declared.command.Sign.the-variants.{Plus, Minus}
 use Rattle.rule.specs.declared.pair.AdmittedPair.{AdmittedPair}
 use Rattle.follower.specs.Following.{tableAt}
+use Rattle.follower.specs.Signs.{isNegative, negatedBy}
 use Rattle.follower.specs.declared.row.Row.{Row}
 
 -- Entries of order n are kept from 0 to 2^(n+2) - 1.
@@ -109,17 +110,13 @@ FractionRelated p (Some t) s = FractionRowsRelated p t s
 abbrev pub readSigned : ℕ → ℕ → ℤ
 readSigned n z = cond (ltb z (2 ^ (n + 1))) (pos z) (pos z -ℤ pos (2 ^ (n + 2)))
 
--- z negated where the mark is set.
-abbrev pub negatedBy : Bool → ℤ → ℤ
-negatedBy b z = cond b (negℤ z) z
-
 -- c so read, negated if e is negative.
 abbrev pub numeratorOf : FractionRows → ℤ
-numeratorOf t = negatedBy (ltZ (readSigned (t .order) (t .second .left)) (pos 0)) (readSigned (t .order) (t .first .left))
+numeratorOf t = negatedBy (isNegative (readSigned (t .order) (t .second .left))) (readSigned (t .order) (t .first .left))
 
 -- e so read, negated if it is negative.
 abbrev pub denominatorOf : FractionRows → ℤ
-denominatorOf t = negatedBy (ltZ (readSigned (t .order) (t .second .left)) (pos 0)) (readSigned (t .order) (t .second .left))
+denominatorOf t = negatedBy (isNegative (readSigned (t .order) (t .second .left))) (readSigned (t .order) (t .second .left))
 
 -- nu/de is a/b in lowest terms, and de is positive.
 pub record Reduced (a b nu de : ℤ) : Type 0 where

@@ -1,3 +1,4 @@
+pub mod Signs
 pub mod Following
 pub mod Cofactor
 pub mod Entries

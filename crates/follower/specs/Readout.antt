@@ -1,22 +1,14 @@
 -- What the cofactor follower gives at the end of a run, and what is right of it.
 use Prim.Native.Nat.{ℕ, _+_, _*_, _≤_}
 use mathlib.Core.Path.{_≡_}
-use mathlib.Core.Bool.{Bool, true, false, not, cond}
+use mathlib.Core.Bool.{Bool, true, false, not}
 use lib.Dec.{ltb}
 use lib.IntN.{ℤ, pos, _+ℤ_, _-ℤ_, _*ℤ_, negℤ, natAbs}
-use lib.Signed.{ltZ}
 use Rattle.std.specs.declared.option.Option.{Option}
 use Rattle.std.specs.declared.option.Option.the-variants.{Some, None}
+use Rattle.follower.specs.Signs.{isNegative, negatedBy}
 use Rattle.follower.specs.Cofactor.{CofactorRows}
 use Rattle.follower.specs.declared.entries.Cofactors.{Cofactors}
-
-abbrev pub isNegative : ℤ → Bool
-isNegative z = ltZ z (pos 0)
-
--- z, negated where the mark is set.
-abbrev pub negatedBy : Bool → ℤ → ℤ
-negatedBy true z = negℤ z
-negatedBy false z = z
 
 -- Whether two numbers are both negative or both not.
 abbrev pub alike : Bool → Bool → Bool

@@ -7,8 +7,11 @@ ghost use lib.IntN.{natAbs};
 ghost use Rattle.rule.specs.Kind.{summed};
 ghost use Rattle.rule.specs.Whole.{odd, whole};
 ghost use Rattle.follower.specs.Cofactor.{halvedPair, swapped, combined, corrected, evened, halvedRow, inRange, rowFits, rowsTake, rowsTurn};
-ghost use Rattle.follower.specs.Readout.{isNegative, negatedBy, alike, moved, isFar, isLess, uOf, vOf};
+ghost use Rattle.follower.specs.Signs.{isNegative};
+ghost use Rattle.follower.specs.Readout.{alike, moved, isFar, isLess, uOf, vOf};
 ghost use Rattle.follower.specs.Entries.{rowsOf, Within, Settled};
+use crate::signs::is_negative;
+use crate::signs::negated_by;
 use rule::command::Command;
 use rule::command::Sign;
 use rule::order::Order;
@@ -58,21 +61,6 @@ fn in_range(order: Order, z: i64) -> bool
     } else {
         z.unsigned_abs() < limit(order)
     }
-}
-
-fn is_negative(z: i64) -> bool
-    ensures { λ r. ⌜ r ≡ isNegative z ⌝ }
-{
-    z < 0
-}
-
-// z, negated where the mark is set.
-fn negated_by(mark: bool, z: i64) -> i64
-    requires { ⌜ natAbs z ≤ 2 ^ 58 ⌝ }
-    ensures value { λ r. ⌜ r ≡ negatedBy mark z ⌝ }
-    ensures size { λ r. ⌜ natAbs r ≤ 2 ^ 58 ⌝ }
-{
-    if mark { -z } else { z }
 }
 
 // z moved by w: down where both marks are set, up where only the first is.

@@ -4,4 +4,5 @@ pub mod follower;
 pub mod fraction;
 pub mod pair;
 mod row;
+mod signs;
 pub mod theorems;

@@ -1,17 +1,18 @@
 // What the fraction follower does.
 ghost use Prim.Native.Nat.{_^_, _<_, _≤_};
 ghost use mathlib.Core.Path.{_≡_};
-ghost use lib.Signed.{ltZ};
-ghost use lib.IntN.{pos, natAbs};
+ghost use lib.IntN.{natAbs};
 ghost use Rattle.std.specs.declared.option.Option.{Option};
 ghost use Rattle.std.specs.declared.option.Option.the-variants.{None, Some};
-ghost use Rattle.follower.specs.Fraction.{modulus, rowsAfter, readSigned, negatedBy, numeratorOf, denominatorOf, FractionRows, fractionFirst, fractionAccepts, fractionTurns, FractionRelated};
+ghost use Rattle.follower.specs.Fraction.{modulus, rowsAfter, readSigned, numeratorOf, denominatorOf, FractionRows, fractionFirst, fractionAccepts, fractionTurns, FractionRelated};
 ghost use Rattle.follower.specs.FractionTable.{rowsOf, fractionTable, readOut};
 use super::Fraction;
 use super::KeptRows;
 use super::Ratio;
 use crate::follower::Follower;
 use crate::row::Row;
+use crate::signs::is_negative;
+use crate::signs::negated_by;
 use rule::command::Command;
 use rule::fault::Fault;
 use rule::fault::Layer;
@@ -46,20 +47,6 @@ fn read_signed(order: Order, entry: u64) -> i64
     } else {
         entry as i64 - modulus_of(order) as i64
     }
-}
-
-fn is_negative(z: i64) -> bool
-    ensures { λ r. ⌜ r ≡ ltZ z (pos 0) ⌝ }
-{
-    z < 0
-}
-
-// z negated where the mark is set.
-fn negated_by(mark: bool, z: i64) -> i64
-    requires { ⌜ natAbs z ≤ 2 ^ 58 ⌝ }
-    ensures { λ r. ⌜ r ≡ negatedBy mark z ⌝ }
-{
-    if mark { -z } else { z }
 }
 
 impl KeptRows {

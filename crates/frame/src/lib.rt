@@ -1,0 +1,2 @@
+mod number;
+pub mod pair;

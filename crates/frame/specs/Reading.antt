@@ -18,6 +18,7 @@ use Rattle.rule.specs.declared.fault.Reason.{Reason}
 use Rattle.rule.specs.declared.fault.Reason.the-variants.{FrameTooShort, LengthDiffers, WrongVersion, OperandsDoNotFill}
 use Rattle.rule.specs.declared.pair.AdmittedPair.{AdmittedPair}
 use Rattle.frame.specs.Numbers.{word, signedValue}
+use Rattle.frame.specs.Frames.{pairFrame}
 
 -- A refusal, or the order and the operands that were read.
 pub data Reading : Type 0 where
@@ -58,3 +59,8 @@ reading (l0 ∷ l1 ∷ version ∷ o0 ∷ o1 ∷ operands) = checked (word l0 l1
 abbrev pub Reads : List ℕ → Result AdmittedPair Fault → Type 0
 Reads bytes (Ok p) = reading bytes ≡ read (p .order .value) (p .a) (p .b)
 Reads bytes (Err f) = reading bytes ≡ refused f
+
+-- What was read as a pair is the frame of that pair and nothing else.
+abbrev pub Framed : List ℕ → Result AdmittedPair Fault → Type 0
+Framed bytes (Ok p) = bytes ≡ pairFrame (p .order .value) (p .a) (p .b)
+Framed bytes (Err f) = Unit {0}

@@ -1,5 +1,9 @@
 // The frame of a pair, read and written (docs/FRAMES.md).
-ghost use Rattle.frame.specs.Reading.{Reads};
+ghost use Rattle.frame.specs.Frames.{pairFrame};
+ghost use Rattle.frame.specs.Reading.{Framed, Reads};
+ghost use Rattle.frame.specs.Writing.{Writes};
+use crate::head;
+use crate::head::VERSION;
 use crate::number;
 use rule::fault::Fault;
 use rule::fault::Layer;
@@ -7,12 +11,10 @@ use rule::fault::Reason;
 use rule::order::Order;
 use rule::pair::AdmittedPair;
 
-// The only version of frames that there is.
-pub const VERSION: u8 = 1;
-
 // The pair that a frame holds, or the first thing that is wrong with it.
 pub fn read_pair(bytes: &[u8]) -> Result<AdmittedPair, Fault>
-    ensures { λ r. ⌜ Reads (now (bytes .entry)) r ⌝ }
+    ensures reads { λ r. ⌜ Reads (now (bytes .entry)) r ⌝ }
+    ensures unique { λ r. ⌜ Framed (now (bytes .entry)) r ⌝ }
 {
     let [l0, l1, version, o0, o1, operands @ ..] = bytes else {
         return Err(Fault::new(Reason::FrameTooShort, Layer::Frame, bytes.len()));
@@ -30,4 +32,19 @@ pub fn read_pair(bytes: &[u8]) -> Result<AdmittedPair, Fault>
     }
     let (a, b) = operands.split_at(width);
     AdmittedPair::new(order, number::signed(a), number::signed(b))
+}
+
+// Writes the frame of a pair to the front of a buffer, and answers how long it is.
+pub fn write_pair(pair: AdmittedPair, buffer: &mut [u8]) -> Result<usize, Fault>
+    ensures { λ r. ⌜ Writes (pairFrame (pair .order .value) (pair .a) (pair .b)) (now (buffer .entry)) r (now (buffer .exit)) ⌝ }
+{
+    let width = pair.order().width();
+    let following = 3 + 2 * width;
+    if buffer.len() < 2 + following {
+        return Err(Fault::new(Reason::BufferTooShort, Layer::Unit, 0));
+    }
+    head::put_head(buffer, following as u16, pair.order());
+    number::put_signed(buffer, 5, width, pair.a());
+    number::put_signed(buffer, 5 + width, width, pair.b());
+    Ok(2 + following)
 }

@@ -49,17 +49,18 @@ begun-more front bytes before now next at b e p =
       ap (drop (at + k)) (b .is) ∙ sym (drop-drop k at (front ++ rest)) ∙ ap (drop k) (drop-at front rest at (sym e)) ∙ drop-drop k (length front) before ∙ ap (λ m. drop m before) (sym (length-append front bytes)) in
     record { is = p ∙ ap₂ (λ (x y : List ℕ). x ++ bytes ++ y) (ap (take at) (b .is) ∙ take-at front rest at (sym e)) d }
 
--- ---- lengths
+pub begun-number : (front before now next : List ℕ) (at w k : ℕ) (y z : ℤ) → Begun front before now → at ≡ length front → w ≡ k → y ≡ z → next ≡ placed now at (signedBytes w y) → Begun (front ++ signedBytes k z) before next
+begun-number front before now next at w k y z b e f g p =
+    begun-more front (signedBytes k z) before now next at b e (p ∙ ap (placed now at) (ap₂ signedBytes f g))
+
+-- ---- the frame of a pair, part by part
 pub length-pairFrame : (n : ℕ) (a b : ℤ) → length (pairFrame n a b) ≡ 5 + 2 * width n
 length-pairFrame n a b = simp (length-append, length-signedBytes) (omega arith)
 
--- ---- the frame of a pair, part by part
-pub written-pair : (n : ℕ) (a b : ℤ) (w m : ℕ) (a′ b′ : ℤ) (before x y z : List ℕ) → w ≡ width n → m ≡ n → a′ ≡ a → b′ ≡ b → x ≡ placed before 0 (head (3 + 2 * w) m) → y ≡ placed x 5 (signedBytes w a′) → z ≡ placed y (5 + w) (signedBytes w b′) → z ≡ pairFrame n a b ++ drop (length (pairFrame n a b)) before
-written-pair n a b w m a′ b′ before x y z ew em ea eb ex ey ez =
-    let h = head (3 + 2 * w) m in
-    let one = begun-more [] h before before x 0 (begun-none before) refl ex in
-    let two = begun-more h (signedBytes w a′) before x y 5 one refl ey in
-    let l : 5 + w ≡ length (h ++ signedBytes w a′) = omega (arith, length-signedBytes w a′) in
-    let three = begun-more (h ++ signedBytes w a′) (signedBytes w b′) before y z (5 + w) two l ez in
-    let same : h ++ signedBytes w a′ ++ signedBytes w b′ ≡ pairFrame n a b = rw (ew, em, ea, eb) refl in
-    three .is ∙ ap (λ f. f ++ drop (length f) before) same
+pub written-pair : (n : ℕ) (a b : ℤ) (w m : ℕ) (x y : ℤ) (before one two three : List ℕ) → w ≡ width n → m ≡ n → x ≡ a → y ≡ b → one ≡ placed before 0 (head (3 + 2 * w) m) → two ≡ placed one 5 (signedBytes w x) → three ≡ placed two (5 + w) (signedBytes w y) → Begun (pairFrame n a b) before three
+written-pair n a b w m x y before one two three ew em ex ey e1 e2 e3 =
+    let k = width n in
+    let h = head (3 + 2 * k) n in
+    let b1 = begun-more [] h before before one 0 (begun-none before) refl (e1 ∙ ap₂ (λ j i. placed before 0 (head (3 + 2 * j) i)) ew em) in
+    let b2 = begun-number h before one two 5 w k x a b1 refl ew ex e2 in
+    begun-number (h ++ signedBytes k a) before two three (5 + w) w k y b b2 (omega (arith, ew, length-signedBytes k a)) ew ey e3

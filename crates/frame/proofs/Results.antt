@@ -26,9 +26,9 @@ words-written r w before one two three ew e1 e2 e3 =
     begun-more (h ++ twoBytes (r .count)) (twoBytes (r .twos)) before two three 7 b2 refl e3
 
 pub written-result : (r : Reduction) (w : ℕ) (g u v p q : ℤ) (before x1 x2 x3 x4 x5 x6 x7 x8 : List ℕ) → w ≡ widthOf r → g ≡ pos (r .g) → u ≡ r .u → v ≡ r .v → p ≡ r .numerator → q ≡ r .denominator
-  → x1 ≡ placed before 0 (head (7 + 5 * w) (r .order .value)) → x2 ≡ placed x1 5 (twoBytes (r .count)) → x3 ≡ placed x2 7 (twoBytes (r .twos))
-  → x4 ≡ placed x3 9 (signedBytes w g) → x5 ≡ placed x4 (9 + w) (signedBytes w u) → x6 ≡ placed x5 (9 + 2 * w) (signedBytes w v) → x7 ≡ placed x6 (9 + 3 * w) (signedBytes w p) → x8 ≡ placed x7 (9 + 4 * w) (signedBytes w q)
-  → Begun (resultFrame r) before x8
+    → x1 ≡ placed before 0 (head (7 + 5 * w) (r .order .value)) → x2 ≡ placed x1 5 (twoBytes (r .count)) → x3 ≡ placed x2 7 (twoBytes (r .twos))
+    → x4 ≡ placed x3 9 (signedBytes w g) → x5 ≡ placed x4 (9 + w) (signedBytes w u) → x6 ≡ placed x5 (9 + 2 * w) (signedBytes w v) → x7 ≡ placed x6 (9 + 3 * w) (signedBytes w p) → x8 ≡ placed x7 (9 + 4 * w) (signedBytes w q)
+    → Begun (resultFrame r) before x8
 written-result r w g u v p q before x1 x2 x3 x4 x5 x6 x7 x8 ew eg eu ev ep eq e1 e2 e3 e4 e5 e6 e7 e8 =
     let k = widthOf r in
     let f3 = head (7 + 5 * k) (r .order .value) ++ twoBytes (r .count) ++ twoBytes (r .twos) in

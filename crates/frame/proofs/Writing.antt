@@ -46,7 +46,7 @@ begun-more front bytes before now next at b e p =
     let rest = drop (length front) before in
     let k = length bytes in
     let d : drop (at + k) now ≡ drop (length (front ++ bytes)) before =
-      ap (drop (at + k)) (b .is) ∙ sym (drop-drop k at (front ++ rest)) ∙ ap (drop k) (drop-at front rest at (sym e)) ∙ drop-drop k (length front) before ∙ ap (λ m. drop m before) (sym (length-append front bytes)) in
+    ap (drop (at + k)) (b .is) ∙ sym (drop-drop k at (front ++ rest)) ∙ ap (drop k) (drop-at front rest at (sym e)) ∙ drop-drop k (length front) before ∙ ap (λ m. drop m before) (sym (length-append front bytes)) in
     record { is = p ∙ ap₂ (λ (x y : List ℕ). x ++ bytes ++ y) (ap (take at) (b .is) ∙ take-at front rest at (sym e)) d }
 
 pub begun-number : (front before now next : List ℕ) (at w k : ℕ) (y z : ℤ) → Begun front before now → at ≡ length front → w ≡ k → y ≡ z → next ≡ placed now at (signedBytes w y) → Begun (front ++ signedBytes k z) before next

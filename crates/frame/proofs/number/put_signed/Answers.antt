@@ -23,12 +23,13 @@ loop-i-again c =
     let e : suc j ≡ c .loop-i .i = omega arith in
     let h : at + j < length xs = search needs in
     let f : SFits w64 (c .without-low-byte-rest .result) = search needs in
-    let x = c .low-byte .result in
-    ( take-set-le at xs (at + j) x (omega arith) ∙ c .loop-i .inv .0
-    , ap (λ y. signedBytes j y ++ drop (at + j) (set xs (at + j) x)) (toZ-ofZ w64 _ f ∙ c .without-low-byte-rest .ensures ∙ ap (λ y. shrZ y 256) (c .loop-i .rest-is))
-      ∙ put-more xs at j x z (c .low-byte .ensures ∙ ap lowByte (c .loop-i .rest-is)) h
-      ∙ ap₂ (λ k y. signedBytes k y ++ drop (at + k) xs) e (sym (c .loop-i .rest-is))
-      ∙ c .loop-i .inv .1 )
+    let x = c .low-byte .result in (
+      take-set-le at xs (at + j) x (omega arith) ∙ c .loop-i .inv .0,
+      ap (λ y. signedBytes j y ++ drop (at + j) (set xs (at + j) x)) (toZ-ofZ w64 _ f ∙ c .without-low-byte-rest .ensures ∙ ap (λ y. shrZ y 256) (c .loop-i .rest-is))
+          ∙ put-more xs at j x z (c .low-byte .ensures ∙ ap lowByte (c .loop-i .rest-is)) h
+          ∙ ap₂ (λ k y. signedBytes k y ++ drop (at + k) xs) e (sym (c .loop-i .rest-is))
+          ∙ c .loop-i .inv .1,
+    )
 
 pub returns : need.returns
 returns c =

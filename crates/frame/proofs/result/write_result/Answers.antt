@@ -20,7 +20,8 @@ returns c =
     let u : SFits w64 (r .u) = search needs in
     let v : SFits w64 (r .v) = search needs in
     let p : SFits w64 (r .numerator) = search needs in
-    let q : SFits w64 (r .denominator) = search needs in
-    ( omega (arith, c .width-width .ensures, length-resultFrame r)
-    , written-result r (c .width-width .result) _ _ _ _ _ (c .args .buffer .now) (c .put-head .last .buffer) (c .put-word .last .buffer) (c .put-word-2 .last .buffer) (c .put-signed .last .buffer) (c .put-signed-2 .last .buffer) (c .put-signed-3 .last .buffer) (c .put-signed-4 .last .buffer) (c .put-signed-5 .last .buffer)
-      (c .width-width .ensures) (toZ-pos w64 (r .g) (omega (arith, small, r .fit .0))) (toZ-ofZ w64 _ u) (toZ-ofZ w64 _ v) (toZ-ofZ w64 _ p) (toZ-ofZ w64 _ q) (c .put-head .ensures) (c .put-word .ensures) (c .put-word-2 .ensures) (c .put-signed .ensures) (c .put-signed-2 .ensures) (c .put-signed-3 .ensures) (c .put-signed-4 .ensures) (c .put-signed-5 .ensures) .is )
+    let q : SFits w64 (r .denominator) = search needs in (
+      omega (arith, c .width-width .ensures, length-resultFrame r),
+      written-result r (c .width-width .result) _ _ _ _ _ (c .args .buffer .now) (c .put-head .last .buffer) (c .put-word .last .buffer) (c .put-word-2 .last .buffer) (c .put-signed .last .buffer) (c .put-signed-2 .last .buffer) (c .put-signed-3 .last .buffer) (c .put-signed-4 .last .buffer) (c .put-signed-5 .last .buffer)
+          (c .width-width .ensures) (toZ-pos w64 (r .g) (omega (arith, small, r .fit .0))) (toZ-ofZ w64 _ u) (toZ-ofZ w64 _ v) (toZ-ofZ w64 _ p) (toZ-ofZ w64 _ q) (c .put-head .ensures) (c .put-word .ensures) (c .put-word-2 .ensures) (c .put-signed .ensures) (c .put-signed-2 .ensures) (c .put-signed-3 .ensures) (c .put-signed-4 .ensures) (c .put-signed-5 .ensures) .is,
+    )

@@ -1,0 +1,20 @@
+-- What writing a frame into a buffer does.
+use Prim.Native.Nat.{ℕ, _+_, _<_}
+use mathlib.Core.Path.{_≡_}
+use mathlib.Core.List.{List, _++_}
+use lib.ListN.{length, take, drop}
+use Rattle.std.specs.declared.result.Result.{Result}
+use Rattle.std.specs.declared.result.Result.the-variants.{Ok, Err}
+use Rattle.rule.specs.Refusal.{fault}
+use Rattle.rule.specs.declared.fault.Fault.{Fault}
+use Rattle.rule.specs.declared.fault.Layer.the-variants.{Unit}
+use Rattle.rule.specs.declared.fault.Reason.the-variants.{BufferTooShort}
+
+-- A buffer with bytes written over it from a place on.
+abbrev pub placed : List ℕ → ℕ → List ℕ → List ℕ
+placed before at bytes = take at before ++ bytes ++ drop (at + length bytes) before
+
+-- The frame goes to the front of the buffer and its rest stays; a buffer that is too short is refused and left as it was.
+abbrev pub Writes : List ℕ → List ℕ → Result ℕ Fault → List ℕ → Type 0
+Writes frame before (Ok m) after = (m ≡ length frame) × (after ≡ frame ++ drop (length frame) before)
+Writes frame before (Err f) after = (length before < length frame) × (f ≡ fault BufferTooShort Unit 0) × (after ≡ before)

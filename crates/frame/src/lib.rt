@@ -1,0 +1,6 @@
+mod head;
+mod number;
+pub mod pair;
+pub mod reduction;
+pub mod result;
+pub mod theorems;

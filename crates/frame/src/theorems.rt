@@ -1,0 +1,17 @@
+// The theorems of the frames, each as the contract of a function.
+ghost use Rattle.frame.specs.Theorems.{Frame-unique, Number-read-back, Pair-read-back};
+
+// The frame of an admitted pair is read as that pair.
+pub fn pairs_are_read_back()
+    ensures { λ _. ⌜ Pair-read-back ⌝ }
+{}
+
+// Bytes that are read as a pair are its frame.
+pub fn frames_are_unique()
+    ensures { λ _. ⌜ Frame-unique ⌝ }
+{}
+
+// Every number of a frame fits its bytes.
+pub fn numbers_are_read_back()
+    ensures { λ _. ⌜ Number-read-back ⌝ }
+{}

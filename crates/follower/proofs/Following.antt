@@ -17,7 +17,7 @@ turned-more turns t [] c = refl
 turned-more turns t (x ∷ cs) c = turned-more turns (turns t x) cs c
 
 -- side by side, each table goes its own way
-turned-beside : {T U : Type 0} (f : T → Command → T) (g : U → Command → U) (t : T) (u : U) (cs : List Command) → turned {T = T × U} (λ x c. (f (x .0) c, g (x .1) c)) (t, u) cs ≡ (turned f t cs, turned g u cs)
+pub turned-beside : {T U : Type 0} (f : T → Command → T) (g : U → Command → U) (t : T) (u : U) (cs : List Command) → turned {T = T × U} (λ x c. (f (x .0) c, g (x .1) c)) (t, u) cs ≡ (turned f t cs, turned g u cs)
 unfolding turned
 turned-beside f g t u [] = refl
 turned-beside f g t u (c ∷ cs) = turned-beside f g (f t c) (g u c) cs

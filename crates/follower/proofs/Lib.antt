@@ -5,3 +5,4 @@ pub mod Readout
 pub mod Within
 pub mod Modulo
 pub mod Fractions
+pub mod Marked

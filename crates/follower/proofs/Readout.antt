@@ -24,8 +24,8 @@ use Rattle.rule.proofs.Sizes.{abs-mul, factor-most, left-some, right-some, pow-
 use Rattle.follower.specs.Signs.{isNegative, negatedBy}
 use Rattle.follower.proofs.Negated.{negated-size}
 use Rattle.follower.specs.Cofactor.{CofactorRows}
-use Rattle.follower.specs.Readout.{alike, moved, cOf, isFar, isLess, uOf, vOf, Bezout}
-use Rattle.follower.proofs.Rows.{Fresh, Phase, Kept, rowsAt, kept-at}
+use Rattle.follower.specs.Readout.{alike, moved, cOf, isFar, isLess, uOf, vOf, Bezout, TableCofactors, Cofactors-right}
+use Rattle.follower.proofs.Rows.{Fresh, Phase, Kept, rowsAt, kept-at, cofactor-table}
 
 -- ---- the sum
 -- the row, with the sign of a, gives |a|
@@ -201,3 +201,8 @@ cofactors-fit p m need =
 
 pub bezout : (p : AdmittedPair) (m : ℕ) → Need whole (startOf p) m → let s = after whole m (startOf p) in Bezout (p .a) (p .b) (divisor s) (uOf (s .a) (rowsAt p m)) (vOf (s .a) (rowsAt p m))
 bezout p m need = bezout-there p (after whole m (startOf p)) (rowsAt p m) (zero-yes _ (need .over)) (kept-at p m) (divisor-greatest (p .a) (p .b) (p .admitted .2) m need)
+
+pub cofactors-right : Cofactors-right
+cofactors-right p m need =
+    let fit = cofactors-fit p m need in
+    subst (TableCofactors p (after whole m (startOf p))) (sym (cofactor-table p m)) (record { bezout = bezout p m need; u = fit .0; v = fit .1 })

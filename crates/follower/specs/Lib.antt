@@ -6,3 +6,4 @@ pub mod CofactorTable
 pub mod Readout
 pub mod Fraction
 pub mod FractionTable
+pub mod Marked

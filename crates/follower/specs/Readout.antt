@@ -7,7 +7,13 @@ use lib.IntN.{ℤ, pos, _+ℤ_, _-ℤ_, _*ℤ_, negℤ, natAbs}
 use Rattle.std.specs.declared.option.Option.{Option}
 use Rattle.std.specs.declared.option.Option.the-variants.{Some, None}
 use Rattle.follower.specs.Signs.{isNegative, negatedBy}
-use Rattle.follower.specs.Cofactor.{CofactorRows}
+use Rattle.rule.specs.Divisor.{divisor}
+use Rattle.rule.specs.Pairs.{orderOf, startOf}
+use Rattle.rule.specs.Rule.{State, after, Need}
+use Rattle.rule.specs.Whole.{whole, Below}
+use Rattle.rule.specs.declared.pair.AdmittedPair.{AdmittedPair}
+use Rattle.follower.specs.Following.{tableAt}
+use Rattle.follower.specs.Cofactor.{CofactorRows, cofactorFirst, cofactorTurns}
 use Rattle.follower.specs.declared.entries.Cofactors.{Cofactors}
 
 -- Whether two numbers are both negative or both not.
@@ -49,3 +55,17 @@ pub record Bezout (a b : ℤ) (g : ℕ) (u v : ℤ) : Type 0 where
 abbrev pub cofactorsAt : ℤ → Option CofactorRows → Option Cofactors
 cofactorsAt a None = None
 cofactorsAt a (Some r) = Some (record { u = uOf a r; v = vOf a r })
+
+-- u and v of a table for a run that ended with a are cofactors, and fit the order.
+pub record ReadsCofactors (p : AdmittedPair) (s : State ℤ) (r : CofactorRows) : Type 0 where
+  pub bezout : Bezout (p .a) (p .b) (divisor s) (uOf (s .a) r) (vOf (s .a) r)
+  pub u : Below (orderOf p) (uOf (s .a) r)
+  pub v : Below (orderOf p) (vOf (s .a) r)
+
+abbrev pub TableCofactors : AdmittedPair → State ℤ → Option CofactorRows → Type 0
+TableCofactors p s None = ⊥
+TableCofactors p s (Some r) = ReadsCofactors p s r
+
+-- At the end of the run of every admitted pair the table reads so.
+abbrev pub Cofactors-right : Type 0
+Cofactors-right = (p : AdmittedPair) (m : ℕ) → Need whole (startOf p) m → TableCofactors p (after whole m (startOf p)) (tableAt cofactorFirst cofactorTurns p m)

@@ -1,4 +1,4 @@
--- The marked pairs, computed.
+-- The rule does to the marked pairs what stands beside them, by computing.
 use Prim.Native.Nat.{ℕ, zero, suc, _^_, _<_, _≤_}
 use mathlib.Core.Path.{_≡_, refl}
 use mathlib.Core.Bool.{Bool, true, false, not, _&&_}
@@ -8,11 +8,12 @@ use lib.ListN.{length}
 use Rattle.std.proofs.shelf.Tests.{and-parts, not-true}
 use Rattle.std.proofs.shelf.Ways.{tells}
 use native.Mathlib.Omega.{arith}
+use Rattle.std.specs.shelf.Lists.{All}
 use Rattle.rule.specs.Rule.{State, start, command, next, after, told, Need}
 use Rattle.rule.specs.Kind.{Kind}
 use Rattle.rule.specs.Whole.{isZero, odd, half, fourfold, whole}
 use Rattle.rule.specs.Divisor.{divisor}
-use Rattle.rule.specs.Marked.{Line, Holds, Marked-pairs}
+use Rattle.rule.specs.Marked.{Line, marked, Holds}
 use Rattle.rule.proofs.Fuel.{need-none, need-more}
 
 -- whether m is the need
@@ -34,9 +35,9 @@ holds : (l : Line) → admits l ≡ true → endsAt whole (length (l .commands))
 unfolding admits
 holds l h e c g = record { order = (grind (arith, tells), grind (arith, tells)); operands = (grind (arith, tells), grind (arith, tells), λ z. grind (arith, tells)); need = ends-at whole _ _ e; commands = c; divisor = g }
 
-pub marked-pairs : Marked-pairs
+pub marked-hold : All Holds marked
 unfolding odd half fourfold command next after told endsAt admits
-marked-pairs = (
+marked-hold = (
   holds _ refl refl refl refl,
   (
     holds _ refl refl refl refl,

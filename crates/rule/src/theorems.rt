@@ -1,5 +1,4 @@
 // The theorems of the rule, each as the contract of a function (docs/PROVED.md).
-ghost use Rattle.rule.specs.Marked.{Marked-pairs};
 ghost use Rattle.rule.specs.Theorems.{Whole-lawful, Halvings-exact, Need-bounded, Run-narrow, Divisor-greatest};
 
 // Whole numbers keep the laws of parity, halving, sums and size that the bound rests on.
@@ -25,9 +24,4 @@ pub fn runs_are_narrow()
 // At the end |a| times 2^twos is the greatest common divisor.
 pub fn divisor_is_greatest()
     ensures { λ _. ⌜ Divisor-greatest ⌝ }
-{}
-
-// The marked pairs: their commands, their needs and their greatest common divisors.
-pub fn marked_pairs_hold()
-    ensures { λ _. ⌜ Marked-pairs ⌝ }
 {}

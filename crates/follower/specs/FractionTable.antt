@@ -10,6 +10,7 @@ use Rattle.follower.specs.declared.fraction.Ratio.{Ratio}
 abbrev pub rowsOf : KeptRows → Rows
 rowsOf t = record { order = t .order .value; first = t .first; second = t .second }
 
+-- The table of what a follower holds.
 abbrev begunTable : Option KeptRows → Option Rows
 begunTable None = None
 begunTable (Some t) = Some (rowsOf t)

@@ -1,8 +1,8 @@
 // What the fraction follower does.
 ghost use Prim.Native.Nat.{_^_, _<_, _≤_};
 ghost use mathlib.Core.Path.{_≡_};
-ghost use lib.Signed.{ltZ};
 ghost use lib.IntN.{pos, natAbs};
+ghost use lib.Signed.{ltZ};
 ghost use Rattle.std.specs.declared.option.Option.{Option};
 ghost use Rattle.std.specs.declared.option.Option.the-variants.{None, Some};
 ghost use Rattle.follower.specs.Fraction.{modulus, rowsAfter, readSigned, negatedBy, numeratorOf, denominatorOf, Rows, fractionFirst, fractionAccepts, fractionTurns, FractionRelated};

@@ -32,6 +32,7 @@ sumIn w x y = (x + y) % w
 abbrev pub differenceIn : ℕ → ℕ → ℕ → ℕ
 differenceIn w x y = (x + (w - y)) % w
 
+-- A row by its two entries.
 abbrev pub row : ℕ → ℕ → Row
 row x y = record { left = x; right = y }
 
@@ -89,7 +90,7 @@ pub record Same (w u v : ℤ) : Type 0 where
   pub times : ℤ
   pub is : u ≡ v +ℤ w *ℤ times
 
--- Modulo w, the row times a and b is z without the twos counted so far.
+-- Modulo w, left·a + right·b is z without the twos counted so far.
 pub record RowRelated (w : ℕ) (r : Row) (s : State ℤ) (z : ℤ) : Type 0 where
   pub bare : ℤ
   pub whole : bare *ℤ pos (2 ^ s .twos) ≡ z
@@ -130,6 +131,7 @@ pub record ReadsReduced (p : AdmittedPair) (t : FractionRows) : Type 0 where
   pub numerator : Below (orderOf p) (numeratorOf t)
   pub denominator : Below (orderOf p) (denominatorOf t)
 
+-- So it is of a table that was begun, and of no other.
 abbrev pub TableReduced : AdmittedPair → Option FractionRows → Type 0
 TableReduced p None = ⊥
 TableReduced p (Some t) = ReadsReduced p t

@@ -10,6 +10,7 @@ use Rattle.follower.specs.declared.fraction.Ratio.{Ratio}
 abbrev pub rowsOf : KeptRows → FractionRows
 rowsOf t = record { order = t .order .value; first = t .first; second = t .second }
 
+-- The table of what a follower holds.
 abbrev begunTable : Option KeptRows → Option FractionRows
 begunTable None = None
 begunTable (Some t) = Some (rowsOf t)

@@ -31,7 +31,9 @@ use Rattle.follower.proofs.Following.{turned-beside}
 use Rattle.follower.proofs.Rows.{rowsAt, cofactor-table}
 use Rattle.follower.proofs.Readout.{bezout, cofactors-fit}
 use Rattle.follower.proofs.Fractions.{fraction-reduced}
-use Rattle.reduction.specs.Reduces.{Told}
+use Rattle.frame.specs.Fits.{Fit}
+use Rattle.frame.specs.declared.reduction.Reduction.{Reduction}
+use Rattle.reduction.specs.Reduces.{Told, Assembled, Right}
 
 -- ---- the cofactors
 cofactors-are : (r : Run) (a : ℤ) (c : Option CofactorRows) (t : Option FractionRows) → Told r a c t → cofactorsAt a c ≡ Some (record { u = uOf (ending (r .pair) r .a) (rowsAt (r .pair) (spent r)); v = vOf (ending (r .pair) r .a) (rowsAt (r .pair) (spent r)) })
@@ -93,6 +95,27 @@ pub count-fits : (r : Run) (a : ℤ) (c : Option CofactorRows) (t : Option Fract
 count-fits r a c t h =
     let p = r .pair in
     omega (arith, run-narrow (orderOf p) (p .a) (p .b) (p .admitted .0) (p .admitted .1) (spent r) (h .need) (spent r) (omega arith) .count, count-after whole (spent r) (startOf p), p .order .admitted .1)
+
+-- ---- all of it
+pub fits : (r : Run) (a : ℤ) (c : Option CofactorRows) (t : Option FractionRows) (f : Cofactors) (q : Ratio) → Told r a c t → cofactorsAt a c ≡ Some f → readOut t ≡ Some q → Fit (orderOf (r .pair)) (r .gcd) (f .u) (f .v) (q .numerator) (q .denominator)
+fits r a c t f q h e g =
+    let i = cofactors-right r a c t f h e in
+    let j = ratio-right r a c t q h g in
+    (divisor-fits r a c t h, i .fit-u, i .fit-v, j .fit-numerator, j .fit-denominator)
+
+pub right : (r : Run) (a : ℤ) (c : Option CofactorRows) (t : Option FractionRows) (f : Cofactors) (q : Ratio) (n : Reduction) → Told r a c t → cofactorsAt a c ≡ Some f → readOut t ≡ Some q → Assembled r f q n → Right (r .pair) r n
+right r a c t f q n h e g k =
+    let p = r .pair in
+    record {
+      order = k .order;
+      count = k .count;
+      twos = k .twos;
+      g = k .g;
+      cofactors = (λ i. Some (record { u = k .u i; v = k .v i })) ∙ sym e ∙ ap₂ cofactorsAt (h .ends) (h .cofactors);
+      ratio = (λ i. Some (record { numerator = k .numerator i; denominator = k .denominator i })) ∙ sym g ∙ ap readOut (h .ratio);
+      bezout = rw (k .g, k .u, k .v) (cofactors-right r a c t f h e .bezout);
+      reduced = rw (k .numerator, k .denominator) (ratio-right r a c t q h g .reduced);
+    }
 
 -- ---- both followers, told the commands of a finished run
 pub told-finished : (p : AdmittedPair) (r : Run) (m : Meaning) (cs : List Command) (a : ℤ) (c : Option CofactorRows) (t : Option FractionRows) → Finished p r m → a ≡ aOf m → cs ≡ vec-items (r .commands)

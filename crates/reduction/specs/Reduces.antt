@@ -25,6 +25,8 @@ use Rattle.follower.specs.Cofactor.{CofactorRows, cofactorFirst, cofactorTurns}
 use Rattle.follower.specs.Fraction.{FractionRows, fractionFirst, fractionTurns, Reduced}
 use Rattle.follower.specs.FractionTable.{readOut}
 use Rattle.follower.specs.Readout.{cofactorsAt, Bezout}
+use Rattle.follower.specs.declared.entries.Cofactors.{Cofactors}
+use Rattle.follower.specs.declared.fraction.Ratio.{Ratio}
 
 -- These tables were told a whole run, which ended with a.
 pub record Told (r : Run) (a : ℤ) (c : Option CofactorRows) (t : Option FractionRows) : Type 0 where
@@ -33,6 +35,17 @@ pub record Told (r : Run) (a : ℤ) (c : Option CofactorRows) (t : Option Fracti
   pub g : r .gcd ≡ divisor (ending (r .pair) r)
   pub cofactors : c ≡ tableAt cofactorFirst cofactorTurns (r .pair) (spent r)
   pub ratio : t ≡ tableAt fractionFirst fractionTurns (r .pair) (spent r)
+
+-- The numbers of a run, with these cofactors and this fraction.
+pub record Assembled (r : Run) (c : Cofactors) (q : Ratio) (n : Reduction) : Type 0 where
+  pub order : n .order ≡ r .pair .order
+  pub count : n .count ≡ spent r
+  pub twos : n .twos ≡ r .twos
+  pub g : n .g ≡ r .gcd
+  pub u : n .u ≡ c .u
+  pub v : n .v ≡ c .v
+  pub numerator : n .numerator ≡ q .numerator
+  pub denominator : n .denominator ≡ q .denominator
 
 -- The numbers are what the run and the followers end with, and they are right: u and v are cofactors, and the fraction is a/b in
 -- lowest terms.

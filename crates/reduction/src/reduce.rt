@@ -2,22 +2,26 @@
 ghost use Prim.Native.Nat.{ℕ, _*_, _≤_};
 ghost use mathlib.Core.Path.{_≡_};
 ghost use lib.ListN.{length};
-ghost use Rattle.rule.specs.Pairs.{startOf};
+ghost use Rattle.rule.specs.Pairs.{orderOf, startOf};
+ghost use Rattle.frame.specs.Fits.{Fit};
+ghost use Rattle.engine.specs.Runs.{spent};
 ghost use Rattle.rule.specs.Rule.{told, Running};
 ghost use Rattle.rule.specs.Whole.{whole};
 ghost use Rattle.follower.specs.Following.{tableAt};
 ghost use Rattle.follower.specs.CofactorTable.{cofactorTable};
 ghost use Rattle.follower.specs.FractionTable.{fractionTable};
-ghost use Rattle.reduction.specs.Reduces.{Told, Right, Reduces};
+ghost use Rattle.reduction.specs.Reduces.{Told, Assembled, Right, Reduces};
 use engine::engine::Engine;
 use engine::run::Run;
 use engine::run::RunError;
 use engine::run::run_to_end;
 use follower::cofactor::Cofactor;
 use follower::cofactor::CofactorFollower;
+use follower::cofactor::Cofactors;
 use follower::follower::Follower;
 use follower::fraction::Fraction;
 use follower::fraction::FractionFollower;
+use follower::fraction::Ratio;
 use follower::pair::Pair;
 use follower::pair::PairFollower;
 use frame::reduction::Reduction;
@@ -40,6 +44,24 @@ fn follow_run<F: Follower>(follower: &mut F, pair: AdmittedPair, commands: &[Com
     }
 }
 
+// The numbers of a run and of its followers, put together.
+fn assembled(run: &Run, cofactors: Cofactors, ratio: Ratio) -> Reduction
+    requires few { ⌜ spent (now run) ≤ 225 ⌝ }
+    requires fit { ⌜ Fit (orderOf (now run .pair)) (now run .gcd) (cofactors .u) (cofactors .v) (ratio .numerator) (ratio .denominator) ⌝ }
+    ensures { λ r. ⌜ Assembled (now (run .entry)) cofactors ratio r ⌝ }
+{
+    Reduction {
+        order: run.pair.order(),
+        count: run.commands.len() as u16,
+        twos: run.twos,
+        g: run.gcd,
+        u: cofactors.u,
+        v: cofactors.v,
+        numerator: ratio.numerator,
+        denominator: ratio.denominator,
+    }
+}
+
 // What the followers give, once they were told a whole run that ended with a.
 fn read_out(run: &Run, a: i64, cofactor: &Cofactor, fraction: &Fraction) -> Reduction
     requires { ⌜ Told (now run) a (cofactorTable (now cofactor)) (fractionTable (now fraction)) ⌝ }
@@ -51,16 +73,7 @@ fn read_out(run: &Run, a: i64, cofactor: &Cofactor, fraction: &Fraction) -> Redu
     let Some(ratio) = fraction.read_out() else {
         unreachable()
     };
-    Reduction {
-        order: run.pair.order(),
-        count: run.commands.len() as u16,
-        twos: run.twos,
-        g: run.gcd,
-        u: cofactors.u,
-        v: cofactors.v,
-        numerator: ratio.numerator,
-        denominator: ratio.denominator,
-    }
+    assembled(run, cofactors, ratio)
 }
 
 // The reduction of a pair on any engine, with the run that it took.

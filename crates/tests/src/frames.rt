@@ -12,6 +12,7 @@ use rule::pair::AdmittedPair;
 use std::test::*;
 
 const PAIR: [u8; 7] = [0, 5, 1, 0, 3, 5, 2];
+
 const RESULT: [u8; 14] = [0, 12, 1, 0, 3, 0, 4, 0, 0, 1, 255, 3, 5, 2];
 
 // The bytes are refused with this number, by the frame and at this place.

@@ -1,4 +1,8 @@
 // Frames: the two worked examples, each refusal at its edges, every order, damaged bytes and buffers of every fit.
+use frame::hex;
+use frame::hex::HexFault;
+use frame::hex::HexFaultDebug;
+use frame::hex::HexFaultPartialEq;
 use frame::pair::read_pair;
 use frame::pair::write_pair;
 use frame::reduction::Reduction;
@@ -190,4 +194,41 @@ fn long_buffers_keep_their_rest() -> Result<(), Fail> {
     let mut buffer = [9u8; 16];
     check_eq(write_result(&reduction()?, &mut buffer)?, 14)?;
     check(buffer == [0, 12, 1, 0, 3, 0, 4, 0, 0, 1, 255, 3, 5, 2, 9, 9])
+}
+
+#[test]
+fn frames_in_hexadecimal_text(rt: LibcRuntime) -> Result<(), Fail> {
+    let text = hex::text_of(rt.alloc(), &RESULT)?;
+    check_eq(text.as_str(), "000c0100030004000001ff030502")?;
+    for written in [
+        "000c0100030004000001ff030502",
+        "000C0100030004000001Ff030502",
+    ] {
+        match hex::bytes_of(rt.alloc(), written) {
+            Ok(bytes) => check(bytes.as_slice() == RESULT.as_slice())?,
+            Err(_) => return Err(Fail::new("refused")),
+        }
+    }
+    Ok(())
+}
+
+// What is no text of whole bytes is refused; the first pair of characters that is wrong says why.
+#[test]
+fn text_that_is_not_hexadecimal(rt: LibcRuntime) -> Result<(), Fail> {
+    for (text, wrong) in [
+        ("0", HexFault::OddLength),
+        ("00051", HexFault::OddLength),
+        ("0g", HexFault::NotADigit),
+        ("g0", HexFault::NotADigit),
+        ("00 1", HexFault::NotADigit),
+        ("0005@0", HexFault::NotADigit),
+        ("0G5", HexFault::NotADigit),
+        ("/0:0", HexFault::NotADigit),
+    ] {
+        match hex::bytes_of(rt.alloc(), text) {
+            Ok(_) => return Err(Fail::new("read")),
+            Err(fault) => check_eq(fault, wrong)?,
+        }
+    }
+    Ok(())
 }

@@ -3,3 +3,4 @@ pub mod Reading
 pub mod Writing
 pub mod Results
 pub mod RoundTrips
+pub mod HexDigits

@@ -1,11 +1,9 @@
 -- Frames and back.
 use Prim.Native.Nat.{ℕ, suc, _+_, _*_, _/_, _%_, _^_, _<_, _≤_}
 use mathlib.Core.Path.{_≡_, refl, sym, ap, ap₂, _∙_, subst}
-use mathlib.Core.Bool.{Bool, true, false}
 use mathlib.Core.List.{List, [], _∷_, _++_}
 use native.Mathlib.Omega.{arith}
 use native.Mathlib.Numerals.{add-one}
-use lib.Dec.{eqb, leb}
 use lib.IntN.{ℤ, pos, negsuc, natAbs}
 use lib.ListN.{length, take, drop, getD}
 use lib.Pow.{pow-mono}
@@ -17,21 +15,19 @@ use Rattle.std.specs.declared.result.Result.{Result}
 use Rattle.std.specs.declared.result.Result.the-variants.{Ok, Err}
 use Rattle.std.proofs.shelf.Elements.{all-take, all-drop, all-from-getD}
 use Rattle.std.proofs.shelf.Lists.{length-take-le, length-drop, length-append, take-at, drop-at, take-append-drop}
-use Rattle.std.proofs.shelf.Tests.{eqb-true, ne-eqb, le-leb, lt-leb}
+use Rattle.std.proofs.shelf.Tests.{eq-eqb, ne-eqb, le-leb, lt-leb}
 use Rattle.std.proofs.shelf.Signed.{ints}
 use Rattle.rule.specs.Admission.{width, orderObjection, pairObjection}
 use Rattle.rule.specs.Admitted.{OrderAdmitted, OperandsAdmitted}
 use Rattle.rule.specs.Whole.{Below}
 use Rattle.rule.specs.declared.fault.Fault.{Fault}
 use Rattle.rule.specs.declared.pair.AdmittedPair.{AdmittedPair}
-use Rattle.rule.specs.declared.fault.Reason.{Reason}
-use Rattle.rule.specs.declared.fault.Reason.the-variants.{LengthDiffers, WrongVersion, OperandsDoNotFill}
 use Rattle.frame.specs.Numbers.{word, signedBytes, signedValue}
 use Rattle.frame.specs.Frames.{pairFrame}
-use Rattle.frame.specs.Reading.{Reading, read, refused, unless, then, checked, reading, Reads, Framed}
+use Rattle.frame.specs.Reading.{read, headObjection, then, checked, reading, Reads, Framed}
 use Rattle.frame.specs.Theorems.{Pair-read-back, Frame-unique, Number-read-back}
 use Rattle.frame.proofs.Numbers.{length-signedBytes, read-back, bytes-of-value}
-use Rattle.frame.proofs.Reading.{reading-filled}
+use Rattle.frame.proofs.Reading.{reading-headed, head-filled}
 
 -- ---- numbers
 mag-small : (z : ℤ) → mag z ≤ natAbs z
@@ -56,34 +52,25 @@ pair-read-back n a b o h =
     let x = signedBytes k a in
     let y = signedBytes k b in
     let l : length (x ++ y) ≡ 2 * k = length-append x y ∙ omega (arith, length-signedBytes k a, length-signedBytes k b) in
-    reading-filled (pairFrame n a b) n a b (omega arith) (omega (arith, l)) refl (omega arith) (order-admits n o) l
+    let len : word ((3 + 2 * k) / 256) ((3 + 2 * k) % 256) ≡ 3 + length (x ++ y) = omega (arith, l) in
+    let good : headObjection (word ((3 + 2 * k) / 256) ((3 + 2 * k) % 256)) 1 n (length (x ++ y)) ≡ None = rw (eq-eqb _ _ len, order-admits n o, eq-eqb _ _ l) refl in
+    reading-headed (pairFrame n a b) n a b (omega arith) (omega arith) good
     (sym (number-read-back n a (h .0)) ∙ ap signedValue (sym (take-at x y k (length-signedBytes k a))))
     (sym (number-read-back n b (h .1)) ∙ ap signedValue (sym (drop-at x y k (length-signedBytes k a))))
     ∙ ap (λ w. then w (read n a b)) (operands-admit n a b h)
 
 -- ---- bytes that were read
--- What reading has found where it ends with a pair: no objection.
-record Clear (o1 o2 o3 o4 o5 : Option Fault) (m n : ℕ) (x y a b : ℤ) : Type 0 where
-  length-right : o1 ≡ None
-  version-right : o2 ≡ None
-  order-right : o3 ≡ None
-  filled : o4 ≡ None
-  admitted : o5 ≡ None
+-- Where reading ends with a pair there was no objection.
+record Clear (o : Option Fault) (m n : ℕ) (x y a b : ℤ) : Type 0 where
+  head : o ≡ None
   order : m ≡ n
   first : x ≡ a
   second : y ≡ b
 
-clear : (o1 o2 o3 o4 o5 : Option Fault) (m n : ℕ) (x y a b : ℤ) → then o1 (then o2 (then o3 (then o4 (then o5 (read m x y))))) ≡ read n a b → Clear o1 o2 o3 o4 o5 m n x y a b
-clear None None None None None m n x y a b e = record { length-right = refl; version-right = refl; order-right = refl; filled = refl; admitted = refl; order = cc; first = cc; second = cc }
-clear (Some f) o2 o3 o4 o5 m n x y a b e = absurd (let z : _≡_ {A = ℕ} 0 1 = cc in omega arith)
-clear None (Some f) o3 o4 o5 m n x y a b e = absurd (let z : _≡_ {A = ℕ} 0 1 = cc in omega arith)
-clear None None (Some f) o4 o5 m n x y a b e = absurd (let z : _≡_ {A = ℕ} 0 1 = cc in omega arith)
-clear None None None (Some f) o5 m n x y a b e = absurd (let z : _≡_ {A = ℕ} 0 1 = cc in omega arith)
-clear None None None None (Some f) m n x y a b e = absurd (let z : _≡_ {A = ℕ} 0 1 = cc in omega arith)
-
-unless-none : (t : Bool) (r : Reason) (p : ℕ) → unless t r p ≡ None → t ≡ true
-unless-none true r p e = refl
-unless-none false r p e = absurd (let z : _≡_ {A = ℕ} 0 1 = cc in omega arith)
+clear : (o p : Option Fault) (m n : ℕ) (x y a b : ℤ) → then o (then p (read m x y)) ≡ read n a b → Clear o m n x y a b
+clear None None m n x y a b e = record { head = refl; order = cc; first = cc; second = cc }
+clear (Some f) p m n x y a b e = absurd (let z : _≡_ {A = ℕ} 0 1 = cc in omega arith)
+clear None (Some f) m n x y a b e = absurd (let z : _≡_ {A = ℕ} 0 1 = cc in omega arith)
 
 operand-bytes : (k : ℕ) (xs : List ℕ) (z : ℤ) → length xs ≡ k → All (λ x. x < 256) xs → signedValue xs ≡ z → signedBytes k z ≡ xs
 operand-bytes k xs z l h e = ap₂ signedBytes (sym l) (sym e) ∙ bytes-of-value xs h
@@ -94,10 +81,10 @@ checked-unique p q v s t ops n a b h e =
     let k = width m in
     let x = signedValue (take k ops) in
     let y = signedValue (drop k ops) in
-    let c = clear (unless (eqb (word p q) (3 + length ops)) LengthDiffers 0) (unless (eqb v 1) WrongVersion 2) (orderObjection (pos m)) (unless (eqb (length ops) (2 * k)) OperandsDoNotFill 5) (pairObjection m x y) m n x y a b e in
-    let len = eqb-true (word p q) (3 + length ops) (unless-none _ LengthDiffers 0 (c .length-right)) in
-    let one = eqb-true v 1 (unless-none _ WrongVersion 2 (c .version-right)) in
-    let fill = eqb-true (length ops) (2 * k) (unless-none _ OperandsDoNotFill 5 (c .filled)) in
+    let c = clear (headObjection (word p q) v m (length ops)) (pairObjection m x y) m n x y a b e in
+    let good = head-filled (word p q) v m (length ops) (c .head) in
+    let len = good .0 in
+    let fill = good .2 in
     let ta = operand-bytes k (take k ops) a (length-take-le k ops (omega (arith, fill))) (all-take (λ z. z < 256) k ops (h .1 .1 .1 .1 .1)) (c .first) in
     let tb = operand-bytes k (drop k ops) b (length-drop k ops ∙ omega (arith, fill)) (all-drop (λ z. z < 256) k ops (h .1 .1 .1 .1 .1)) (c .second) in
     let ep : p ≡ (3 + 2 * k) / 256 = omega (arith, len, fill, h .0, h .1 .0) in
@@ -105,7 +92,7 @@ checked-unique p q v s t ops n a b h e =
     let es : s ≡ m / 256 = omega (arith, h .1 .1 .1 .0, h .1 .1 .1 .1 .0) in
     let et : t ≡ m % 256 = omega (arith, h .1 .1 .1 .0, h .1 .1 .1 .1 .0) in
     let eo : ops ≡ signedBytes k a ++ signedBytes k b = sym (ap₂ (λ (u w : List ℕ). u ++ w) ta tb ∙ take-append-drop k ops) in
-    let there : p ∷ q ∷ v ∷ s ∷ t ∷ ops ≡ pairFrame m a b = cc (ep, eq, one, es, et, eo) in
+    let there : p ∷ q ∷ v ∷ s ∷ t ∷ ops ≡ pairFrame m a b = cc (ep, eq, good .1, es, et, eo) in
     there ∙ ap (λ i. pairFrame i a b) (c .order)
 
 pub frame-unique : Frame-unique

@@ -11,7 +11,7 @@ use Rattle.std.proofs.shelf.Lists.{append-assoc, length-append, take-append-dro
 use Rattle.frame.specs.Numbers.{lowByte, signedBytes}
 use Rattle.rule.specs.Admission.{width}
 use Rattle.frame.specs.Frames.{head, pairFrame}
-use Rattle.frame.specs.Writing.{placed}
+use Rattle.frame.specs.Writing.{placed, pairPlaced}
 use Rattle.frame.proofs.Numbers.{length-signedBytes}
 
 pub placed-two : (xs : List ℕ) (at x y : ℕ) → at + 2 ≤ length xs → set (set xs at x) (at + 1) y ≡ placed xs at (x ∷ y ∷ [])
@@ -49,18 +49,14 @@ begun-more front bytes before now next at b e p =
     ap (drop (at + k)) (b .is) ∙ sym (drop-drop k at (front ++ rest)) ∙ ap (drop k) (drop-at front rest at (sym e)) ∙ drop-drop k (length front) before ∙ ap (λ m. drop m before) (sym (length-append front bytes)) in
     record { is = p ∙ ap₂ (λ (x y : List ℕ). x ++ bytes ++ y) (ap (take at) (b .is) ∙ take-at front rest at (sym e)) d }
 
-pub begun-number : (front before now next : List ℕ) (at w k : ℕ) (y z : ℤ) → Begun front before now → at ≡ length front → w ≡ k → y ≡ z → next ≡ placed now at (signedBytes w y) → Begun (front ++ signedBytes k z) before next
-begun-number front before now next at w k y z b e f g p =
-    begun-more front (signedBytes k z) before now next at b e (p ∙ ap (placed now at) (ap₂ signedBytes f g))
-
 -- ---- the frame of a pair, part by part
 pub length-pairFrame : (n : ℕ) (a b : ℤ) → length (pairFrame n a b) ≡ 5 + 2 * width n
 length-pairFrame n a b = simp (length-append, length-signedBytes) (omega arith)
 
-pub written-pair : (n : ℕ) (a b : ℤ) (w m : ℕ) (x y : ℤ) (before one two three : List ℕ) → w ≡ width n → m ≡ n → x ≡ a → y ≡ b → one ≡ placed before 0 (head (3 + 2 * w) m) → two ≡ placed one 5 (signedBytes w x) → three ≡ placed two (5 + w) (signedBytes w y) → Begun (pairFrame n a b) before three
-written-pair n a b w m x y before one two three ew em ex ey e1 e2 e3 =
+pub pair-placed : (n : ℕ) (a b : ℤ) (before : List ℕ) → pairPlaced n a b before ≡ pairFrame n a b ++ drop (length (pairFrame n a b)) before
+pair-placed n a b before =
     let k = width n in
     let h = head (3 + 2 * k) n in
-    let b1 = begun-more [] h before before one 0 (begun-none before) refl (e1 ∙ ap₂ (λ j i. placed before 0 (head (3 + 2 * j) i)) ew em) in
-    let b2 = begun-number h before one two 5 w k x a b1 refl ew ex e2 in
-    begun-number (h ++ signedBytes k a) before two three (5 + w) w k y b b2 (omega (arith, ew, length-signedBytes k a)) ew ey e3
+    let one = begun-more [] h before before _ 0 (begun-none before) refl refl in
+    let two = begun-more h (signedBytes k a) before _ _ 5 one refl refl in
+    begun-more (h ++ signedBytes k a) (signedBytes k b) before _ _ (5 + k) two (omega (arith, length-signedBytes k a)) refl .is

@@ -4,4 +4,5 @@ pub mod Reading
 pub mod Writing
 pub mod Fits
 pub mod Results
+pub mod Hex
 pub mod Theorems

@@ -16,6 +16,7 @@ use Rattle.rule.specs.declared.fault.Fault.{Fault}
 use Rattle.rule.specs.declared.fault.Layer.the-variants.{Frame}
 use Rattle.rule.specs.declared.fault.Reason.{Reason}
 use Rattle.rule.specs.declared.fault.Reason.the-variants.{FrameTooShort, LengthDiffers, WrongVersion, OperandsDoNotFill}
+use Rattle.rule.specs.declared.order.Order.{Order}
 use Rattle.rule.specs.declared.pair.AdmittedPair.{AdmittedPair}
 use Rattle.frame.specs.Numbers.{word, signedValue}
 use Rattle.frame.specs.Frames.{pairFrame}
@@ -29,20 +30,30 @@ pub data Reading : Type 0 where
 abbrev pub unless : Bool → Reason → ℕ → Option Fault
 unless ok r place = cond ok None (Some (fault r Frame place))
 
+-- The first objection of two.
+abbrev pub orElse : Option Fault → Option Fault → Option Fault
+orElse (Some f) o = Some f
+orElse None o = o
+
+-- What stands against a frame's length, version and order, where so many bytes stand after these; in the order of the checks.
+abbrev pub headObjection : ℕ → ℕ → ℕ → ℕ → Option Fault
+headObjection len version n filled =
+    orElse (unless (eqb len (3 + filled)) LengthDiffers 0)
+    (orElse (unless (eqb version 1) WrongVersion 2)
+    (orElse (orderObjection (pos n))
+    (unless (eqb filled (2 * width n)) OperandsDoNotFill 5)))
+
 -- The first objection, and only without one what comes after it.
 abbrev pub then : Option Fault → Reading → Reading
 then (Some f) r = refused f
 then None r = r
 
--- The checks in their order, of a frame's length, version, order and the bytes after these.
+-- What is read of a frame's length, version, order and the bytes after these.
 abbrev pub checked : ℕ → ℕ → ℕ → List ℕ → Reading
 checked len version n operands =
-    then (unless (eqb len (3 + length operands)) LengthDiffers 0)
-    (then (unless (eqb version 1) WrongVersion 2)
-    (then (orderObjection (pos n))
-    (then (unless (eqb (length operands) (2 * width n)) OperandsDoNotFill 5)
+    then (headObjection len version n (length operands))
     (then (pairObjection n (signedValue (take (width n) operands)) (signedValue (drop (width n) operands)))
-    (read n (signedValue (take (width n) operands)) (signedValue (drop (width n) operands)))))))
+    (read n (signedValue (take (width n) operands)) (signedValue (drop (width n) operands))))
 
 abbrev pub tooShort : ℕ → Reading
 tooShort have = refused (fault FrameTooShort Frame have)
@@ -55,6 +66,10 @@ reading (x ∷ y ∷ []) = tooShort 2
 reading (x ∷ y ∷ z ∷ []) = tooShort 3
 reading (x ∷ y ∷ z ∷ w ∷ []) = tooShort 4
 reading (l0 ∷ l1 ∷ version ∷ o0 ∷ o1 ∷ operands) = checked (word l0 l1) version (word o0 o1) operands
+
+abbrev pub ReadsHead : ℕ → ℕ → ℕ → ℕ → Result Order Fault → Type 0
+ReadsHead len version n filled (Ok o) = (o .value ≡ n) × (headObjection len version n filled ≡ None)
+ReadsHead len version n filled (Err f) = headObjection len version n filled ≡ Some f
 
 abbrev pub Reads : List ℕ → Result AdmittedPair Fault → Type 0
 Reads bytes (Ok p) = reading bytes ≡ read (p .order .value) (p .a) (p .b)

@@ -1,4 +1,5 @@
 mod head;
+pub mod hex;
 mod number;
 pub mod pair;
 pub mod reduction;

@@ -1,5 +1,8 @@
 // The frame of a result, written (docs/FRAMES.md).
-ghost use Rattle.frame.specs.Results.{resultFrame};
+ghost use Prim.Native.Nat.{_+_, _*_, _≤_};
+ghost use lib.ListN.{length};
+ghost use mathlib.Core.Path.{_≡_};
+ghost use Rattle.frame.specs.Results.{resultFrame, resultPlaced, widthOf};
 ghost use Rattle.frame.specs.Writing.{Writes};
 use crate::head;
 use crate::number;
@@ -8,16 +11,13 @@ use rule::fault::Fault;
 use rule::fault::Layer;
 use rule::fault::Reason;
 
-// Writes the frame of a result to the front of a buffer, and answers how long it is.
-pub fn write_result(reduction: &Reduction, buffer: &mut [u8]) -> Result<usize, Fault>
-    ensures { λ r. ⌜ Writes (resultFrame (now (reduction .entry))) (now (buffer .entry)) r (now (buffer .exit)) ⌝ }
+// Puts each part of the frame of a result to its place.
+fn put_result(buffer: &mut [u8], reduction: &Reduction)
+    requires { ⌜ 9 + 5 * widthOf (now reduction) ≤ length (now buffer) ⌝ }
+    ensures { λ _. ⌜ now (buffer .exit) ≡ resultPlaced (now (reduction .entry)) (now (buffer .entry)) ⌝ }
 {
     let width = reduction.order.width();
-    let following = 7 + 5 * width;
-    if buffer.len() < 2 + following {
-        return Err(Fault::new(Reason::BufferTooShort, Layer::Unit, 0));
-    }
-    head::put_head(buffer, following as u16, reduction.order);
+    head::put_head(buffer, (7 + 5 * width) as u16, reduction.order);
     number::put_word(buffer, 5, reduction.count);
     number::put_word(buffer, 7, reduction.twos);
     number::put_signed(buffer, 9, width, reduction.g as i64);
@@ -25,5 +25,16 @@ pub fn write_result(reduction: &Reduction, buffer: &mut [u8]) -> Result<usize, F
     number::put_signed(buffer, 9 + 2 * width, width, reduction.v);
     number::put_signed(buffer, 9 + 3 * width, width, reduction.numerator);
     number::put_signed(buffer, 9 + 4 * width, width, reduction.denominator);
-    Ok(2 + following)
+}
+
+// Writes the frame of a result to the front of a buffer, and answers how long it is.
+pub fn write_result(reduction: &Reduction, buffer: &mut [u8]) -> Result<usize, Fault>
+    ensures { λ r. ⌜ Writes (resultFrame (now (reduction .entry))) (now (buffer .entry)) r (now (buffer .exit)) ⌝ }
+{
+    let length = 9 + 5 * reduction.order.width();
+    if buffer.len() < length {
+        return Err(Fault::new(Reason::BufferTooShort, Layer::Unit, 0));
+    }
+    put_result(buffer, reduction);
+    Ok(length)
 }

@@ -1,10 +1,13 @@
-// Traces one pair: `trace ORDER A B` prints its commands and its greatest common divisor.
+// Traces one pair: `trace ORDER A B`, or `trace FRAME` with a frame in hexadecimal digits, prints its run and its reduction.
 mod report;
 
 use engine::run::RunError;
-use engine::run::run_to_end;
 use engine::word::WordAsEngine;
 use engine::word::WordEngine;
+use frame::hex;
+use frame::hex::HexFault;
+use frame::pair::read_pair;
+use reduction::reduce::reduce;
 use report::Report;
 use report::ReportDisplay;
 use rule::fault::Fault;
@@ -15,16 +18,23 @@ use std::alloc::Global;
 use std::env;
 use std::error::AnyError;
 
-const USAGE: &str = "usage: trace ORDER A B";
+const USAGE: &str = "usage: trace ORDER A B, or trace FRAME";
 
 // The whole number that a word spells.
-fn number(heap: Global, word: Option<String>) -> Result<i64, AnyError> {
-    let Some(word) = word else {
-        return Err(USAGE.into());
-    };
+fn number(heap: Global, word: &str) -> Result<i64, AnyError> {
     match word.parse::<i64>() {
         Ok(n) => Ok(n),
         Err(_) => Err(format!(heap, "'{word}' is not a whole number of at most 64 bits")?.into()),
+    }
+}
+
+// The bytes that a word of hexadecimal digits spells.
+fn bytes(heap: Global, word: &str) -> Result<Vec<u8>, AnyError> {
+    match hex::bytes_of(heap, word) {
+        Ok(bytes) => Ok(bytes),
+        Err(HexFault::OddLength) => Err("a frame has two hexadecimal digits for each byte".into()),
+        Err(HexFault::NotADigit) => Err("a frame has only hexadecimal digits".into()),
+        Err(HexFault::NoMemory) => Err("no memory for the frame".into()),
     }
 }
 
@@ -32,18 +42,18 @@ fn admitted(order: i64, a: i64, b: i64) -> Result<AdmittedPair, Fault> {
     AdmittedPair::new(Order::new(order)?, a, b)
 }
 
-// Runs the pair on a word engine, and prints the run or the refusal.
-fn trace(rt: &LibcRuntime, order: i64, a: i64, b: i64) -> Result<(), AnyError> {
-    let pair = match admitted(order, a, b) {
+// Reduces the pair on a word engine, and prints the reduction, or the refusal of what is no pair.
+fn trace(rt: &LibcRuntime, pair: Result<AdmittedPair, Fault>) -> Result<(), AnyError> {
+    let pair = match pair {
         Ok(pair) => pair,
         Err(fault) => {
             println!(rt, "{fault}")?;
             return Ok(());
         }
     };
-    match run_to_end(rt.alloc(), &mut WordEngine::new(), pair) {
-        Ok(run) => {
-            let report = Report { run };
+    match reduce(rt.alloc(), &mut WordEngine::new(), pair) {
+        Ok((run, reduction)) => {
+            let report = Report { run, reduction };
             print!(rt, "{report}")?;
         }
         Err(RunError::Refused(fault)) => println!(rt, "{fault}")?,
@@ -55,13 +65,21 @@ fn trace(rt: &LibcRuntime, order: i64, a: i64, b: i64) -> Result<(), AnyError> {
 fn run(rt: &LibcRuntime) -> Result<(), AnyError> {
     let heap = rt.alloc();
     let mut words = env::args(rt)?.skip(1);
-    let order = number(heap, words.next())?;
-    let a = number(heap, words.next())?;
-    let b = number(heap, words.next())?;
+    let Some(first) = words.next() else {
+        return Err(USAGE.into());
+    };
+    let Some(a) = words.next() else {
+        let frame = bytes(heap, first.as_str())?;
+        return trace(rt, read_pair(frame.as_slice()));
+    };
+    let Some(b) = words.next() else {
+        return Err(USAGE.into());
+    };
     if words.next().is_some() {
         return Err(USAGE.into());
     }
-    trace(rt, order, a, b)
+    let order = number(heap, first.as_str())?;
+    trace(rt, admitted(order, number(heap, a.as_str())?, number(heap, b.as_str())?))
 }
 
 fn main(rt: LibcRuntime) -> Result<(), AnyError> {

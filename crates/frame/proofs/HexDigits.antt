@@ -1,12 +1,15 @@
 -- Hexadecimal text, two digits at a time.
-use Prim.Native.Nat.{ℕ, _+_, _/_, _%_, _<_, _≤_}
+use Prim.Native.Nat.{ℕ, _+_, _*_, _/_, _%_, _<_, _≤_}
+use mathlib.Core.Bool.{cond}
+use lib.Dec.{ltb}
+use Rattle.frame.specs.Theorems.{Hex-read-back}
 use mathlib.Core.Path.{_≡_, refl, sym, ap, ap₂, _∙_}
 use mathlib.Core.List.{List, [], _∷_, _++_}
 use mathlib.Core.Logic.{⊎-elim}
 use native.Mathlib.Omega.{arith}
 use lib.ListN.{length, drop, getD}
 use lib.Utf8.{encode}
-use Rattle.std.specs.Text.{digitChar}
+use Rattle.std.specs.Text.{digitChar, digitValue}
 use Rattle.std.specs.declared.option.Option.the-variants.{Some, None}
 use Rattle.std.proofs.shelf.Lists.{append-assoc, append-nil, at-drop-more, at-drop-all}
 use Rattle.std.proofs.shelf.Tests.{lt-ltb, le-ltb, cases-lt}
@@ -65,3 +68,29 @@ pushed-two text one two c d v w hv hw ec ed ac ad e1 e2 =
     let high : encode c ≡ digitChar v ∷ [] = ac (digit-ascii v c hv ec) ∙ ap (λ x. x ∷ []) ec in
     let low : encode d ≡ digitChar w ∷ [] = ad (digit-ascii w d hw ed) ∙ ap (λ x. x ∷ []) ed in
     e2 ∙ ap₂ (λ (s t : List ℕ). s ++ t) (e1 ∙ ap (λ l. text ++ l) high) low
+
+-- ---- text that was written is read back
+low-value : (d : ℕ) → d < 10 → digitValue (48 + d) ≡ d
+low-value d h = rw (le-ltb (48 + d) 48 (omega arith), lt-ltb (48 + d) 58 (omega arith)) (omega arith)
+
+high-value : (d : ℕ) → 10 ≤ d → d < 16 → digitValue (87 + d) ≡ d
+high-value d l h = rw (le-ltb (87 + d) 48 (omega arith), le-ltb (87 + d) 58 (omega arith), le-ltb (87 + d) 65 (omega arith), le-ltb (87 + d) 91 (omega arith), le-ltb (87 + d) 97 (omega arith), lt-ltb (87 + d) 123 (omega arith)) (omega arith)
+
+digit-back : (d : ℕ) → d < 16 → hexDigit (digitChar d) ≡ Some d
+digit-back d h =
+    let known : digitValue (digitChar d) ≡ d =
+    ⊎-elim
+    (λ l. ap digitValue (let s : digitChar d ≡ 48 + d = rw (lt-ltb d 10 l) in s) ∙ low-value d l)
+    (λ l. ap digitValue (let s : digitChar d ≡ 87 + d = rw (le-ltb d 10 l) in s) ∙ high-value d l h)
+    (cases-lt d 10) in
+    ap (λ v. cond (ltb v 16) (Some v) None) known ∙ rw (lt-ltb d 16 h) refl
+
+pub hex-read-back : Hex-read-back
+unfolding hexText hexReading
+hex-read-back [] h = refl
+hex-read-back (x ∷ xs) h =
+    let high = digit-back (x / 16) (omega (arith, h .0)) in
+    let low = digit-back (x % 16) (omega arith) in
+    let same : x / 16 * 16 + x % 16 ≡ x = omega arith in
+    ap₂ (λ p q. byteThen (hexByte p q) (hexReading (hexText xs))) high low
+    ∙ ap₂ (λ b r. byteThen (Some b) r) same (hex-read-back xs (h .1))

@@ -10,6 +10,7 @@ use Rattle.rule.specs.Whole.{Below}
 use Rattle.frame.specs.Numbers.{signedBytes, signedValue}
 use Rattle.frame.specs.Frames.{pairFrame}
 use Rattle.frame.specs.Reading.{reading, read}
+use Rattle.frame.specs.Hex.{hexText, hexReading, good}
 
 -- The frame of an admitted pair is read as that pair.
 abbrev pub Pair-read-back : Type 0
@@ -22,3 +23,7 @@ Frame-unique = (bytes : List ℕ) (n : ℕ) (a b : ℤ) → All (λ x. x < 256) 
 -- A number below 2^n in size is read back from its bytes.
 abbrev pub Number-read-back : Type 0
 Number-read-back = (n : ℕ) (z : ℤ) → Below n z → signedValue (signedBytes (width n) z) ≡ z
+
+-- Bytes are read back from their hexadecimal text.
+abbrev pub Hex-read-back : Type 0
+Hex-read-back = (bytes : List ℕ) → All (λ x. x < 256) bytes → hexReading (hexText bytes) ≡ good bytes

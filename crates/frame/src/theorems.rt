@@ -1,5 +1,5 @@
 // The theorems of the frames, each as the contract of a function.
-ghost use Rattle.frame.specs.Theorems.{Frame-unique, Number-read-back, Pair-read-back};
+ghost use Rattle.frame.specs.Theorems.{Frame-unique, Hex-read-back, Number-read-back, Pair-read-back};
 
 // The frame of an admitted pair is read as that pair.
 pub fn pairs_are_read_back()
@@ -14,4 +14,9 @@ pub fn frames_are_unique()
 // Every number of a frame fits its bytes.
 pub fn numbers_are_read_back()
     ensures { λ _. ⌜ Number-read-back ⌝ }
+{}
+
+// Bytes are read back from their hexadecimal text.
+pub fn hexadecimal_text_is_read_back()
+    ensures { λ _. ⌜ Hex-read-back ⌝ }
 {}

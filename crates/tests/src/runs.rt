@@ -1,4 +1,4 @@
-// Whole runs of the word engine: how many commands they take, and the divisor that they end with.
+// How many commands whole runs take.
 use crate::euclid::euclid;
 use engine::run::Run;
 use engine::run::run_to_end;
@@ -20,21 +20,6 @@ fn run(heap: Global, order: i64, a: i64, b: i64) -> Result<Run, Fail> {
         }
         Err(_) => Err(Fail::new("no run")),
     }
-}
-
-// The same of both operands in either place and with either sign.
-fn run_all_ways(heap: Global, order: i64, a: i64, b: i64) -> Result<(), Fail> {
-    let minus_a = a.wrapping_neg();
-    let minus_b = b.wrapping_neg();
-    for (x, y) in [(a, b), (a, minus_b), (minus_a, b), (minus_a, minus_b)] {
-        if y != 0 {
-            run(heap, order, x, y)?;
-        }
-        if x != 0 {
-            run(heap, order, y, x)?;
-        }
-    }
-    Ok(())
 }
 
 // The least order that both operands fit.
@@ -85,74 +70,6 @@ fn near_three_quarters_of_every_order(rt: LibcRuntime) -> Result<(), Fail> {
         };
         let run = run(rt.alloc(), i64::from(n), a, b)?;
         check_eq(run.commands.len(), count)?;
-    }
-    Ok(())
-}
-
-#[test]
-fn published_example(rt: LibcRuntime) -> Result<(), Fail> {
-    run_all_ways(rt.alloc(), 21, 1759291, 1349639)
-}
-
-// Operands at the edges of every order: 0, 1, and next to a power of two or at it.
-#[test]
-fn edges_of_every_order(rt: LibcRuntime) -> Result<(), Fail> {
-    for n in 1u8..=56 {
-        let top = 1i64 << n;
-        let most = top.wrapping_sub(1);
-        for a in [0, 1, most / 2, top / 2, most.wrapping_sub(1), most] {
-            for b in [1, top / 2, most.wrapping_sub(1), most] {
-                run_all_ways(rt.alloc(), i64::from(n), a, b)?;
-            }
-        }
-    }
-    Ok(())
-}
-
-// Every pair of order 5, and so every parity, sign, zero and equality.
-#[test]
-fn every_pair_of_order_five(rt: LibcRuntime) -> Result<(), Fail> {
-    for a in 0i64..32 {
-        for b in 0i64..32 {
-            run_all_ways(rt.alloc(), 5, a, b)?;
-        }
-    }
-    Ok(())
-}
-
-// Powers of two against each other and against themselves.
-#[test]
-fn powers_of_two(rt: LibcRuntime) -> Result<(), Fail> {
-    for i in 0u8..56 {
-        for j in 0u8..=i {
-            run_all_ways(rt.alloc(), 56, 1i64 << i, 1i64 << j)?;
-        }
-    }
-    Ok(())
-}
-
-// Forty pairs of each order from a fixed sequence, with a common factor put into every second one.
-#[test]
-fn scattered_pairs_of_every_order(rt: LibcRuntime) -> Result<(), Fail> {
-    let mut seed: u64 = 0x9e37_79b9_7f4a_7c15;
-    for n in 1u8..=56 {
-        for k in 0u8..40 {
-            seed = seed.wrapping_mul(6364136223846793005)
-                .wrapping_add(1442695040888963407);
-            let a = seed >> (64 - n);
-            seed = seed.wrapping_mul(6364136223846793005)
-                .wrapping_add(1442695040888963407);
-            let b = seed >> (64 - n);
-            let common = if k % 2 == 0 { 1 } else { 12 };
-            let a = a / common * common;
-            let b = b / common * common;
-            run_all_ways(
-                rt.alloc(),
-                i64::from(n),
-                i64::try_from(a)?,
-                i64::try_from(b)?,
-            )?;
-        }
     }
     Ok(())
 }

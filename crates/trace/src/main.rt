@@ -79,7 +79,10 @@ fn run(rt: &LibcRuntime) -> Result<(), AnyError> {
         return Err(USAGE.into());
     }
     let order = number(heap, first.as_str())?;
-    trace(rt, admitted(order, number(heap, a.as_str())?, number(heap, b.as_str())?))
+    trace(
+        rt,
+        admitted(order, number(heap, a.as_str())?, number(heap, b.as_str())?),
+    )
 }
 
 fn main(rt: LibcRuntime) -> Result<(), AnyError> {

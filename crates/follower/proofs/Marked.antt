@@ -16,7 +16,7 @@ use Rattle.follower.specs.Following.{turned}
 use Rattle.follower.specs.Cofactor.{CofactorRows, cofactorFirst, cofactorTurns}
 use Rattle.follower.specs.Fraction.{FractionRows, fractionFirst, fractionTurns, row}
 use Rattle.follower.specs.FractionTable.{readOut}
-use Rattle.follower.specs.Marked.{OfLine, Reduces, Marked-pairs}
+use Rattle.follower.specs.Marked.{OfLine, AsMarked, Marked-pairs}
 use Rattle.follower.specs.Readout.{cofactorsAt}
 
 -- the first tables of a line's pair
@@ -34,11 +34,11 @@ fraction-start : (l : Line) (p : AdmittedPair) → OfLine l p → fractionFirst 
 unfolding fractionStart
 fraction-start l p h = λ i. Some (record { order = h .order i; first = row 1 0; second = row 0 1 })
 
-reduces : (l : Line) → Holds l
+as-marked : (l : Line) → Holds l
     → cofactorsAt (after whole (length (l .commands)) (start (l .a) (l .b)) .a) (turned cofactorTurns (cofactorStart l) (l .commands)) ≡ Some (record { u = l .u; v = l .v })
     → readOut (turned fractionTurns (fractionStart l) (l .commands)) ≡ Some (record { numerator = l .numerator; denominator = l .denominator })
-    → Reduces l
-reduces l h c f =
+    → AsMarked l
+as-marked l h c f =
     record {
       rule = h;
       cofactors = λ p o. ap (λ t. cofactorsAt (after whole (length (l .commands)) (start (l .a) (l .b)) .a) (turned cofactorTurns t (l .commands))) (cofactor-start l p o) ∙ c;
@@ -49,27 +49,27 @@ pub marked-pairs : Marked-pairs
 unfolding odd half fourfold command next after turned cofactorStart fractionStart
 marked-pairs =
     let h = marked-hold in (
-      reduces _ (h .0) refl refl,
+      as-marked _ (h .0) refl refl,
       (
-        reduces _ (h .1 .0) refl refl,
+        as-marked _ (h .1 .0) refl refl,
         (
-          reduces _ (h .1 .1 .0) refl refl,
+          as-marked _ (h .1 .1 .0) refl refl,
           (
-            reduces _ (h .1 .1 .1 .0) refl refl,
+            as-marked _ (h .1 .1 .1 .0) refl refl,
             (
-              reduces _ (h .1 .1 .1 .1 .0) refl refl,
+              as-marked _ (h .1 .1 .1 .1 .0) refl refl,
               (
-                reduces _ (h .1 .1 .1 .1 .1 .0) refl refl,
+                as-marked _ (h .1 .1 .1 .1 .1 .0) refl refl,
                 (
-                  reduces _ (h .1 .1 .1 .1 .1 .1 .0) refl refl,
+                  as-marked _ (h .1 .1 .1 .1 .1 .1 .0) refl refl,
                   (
-                    reduces _ (h .1 .1 .1 .1 .1 .1 .1 .0) refl refl,
+                    as-marked _ (h .1 .1 .1 .1 .1 .1 .1 .0) refl refl,
                     (
-                      reduces _ (h .1 .1 .1 .1 .1 .1 .1 .1 .0) refl refl,
+                      as-marked _ (h .1 .1 .1 .1 .1 .1 .1 .1 .0) refl refl,
                       (
-                        reduces _ (h .1 .1 .1 .1 .1 .1 .1 .1 .1 .0) refl refl,
+                        as-marked _ (h .1 .1 .1 .1 .1 .1 .1 .1 .1 .0) refl refl,
                         (
-                          reduces _ (h .1 .1 .1 .1 .1 .1 .1 .1 .1 .1 .0) refl refl,
+                          as-marked _ (h .1 .1 .1 .1 .1 .1 .1 .1 .1 .1 .0) refl refl,
                           tt,
                         ),
                       ),

@@ -21,10 +21,10 @@ pub record OfLine (l : Line) (p : AdmittedPair) : Type 0 where
   pub b : p .b ≡ l .b
 
 -- The rule does what the line says, and the followers, told its commands, end with its cofactors and its fraction.
-pub record Reduces (l : Line) : Type 0 where
+pub record AsMarked (l : Line) : Type 0 where
   pub rule : Holds l
   pub cofactors : (p : AdmittedPair) → OfLine l p → cofactorsAt (after whole (length (l .commands)) (start (l .a) (l .b)) .a) (turned cofactorTurns (cofactorFirst p) (l .commands)) ≡ Some (record { u = l .u; v = l .v })
   pub fraction : (p : AdmittedPair) → OfLine l p → readOut (turned fractionTurns (fractionFirst p) (l .commands)) ≡ Some (record { numerator = l .numerator; denominator = l .denominator })
 
 abbrev pub Marked-pairs : Type 0
-Marked-pairs = All Reduces marked
+Marked-pairs = All AsMarked marked

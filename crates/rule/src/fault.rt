@@ -95,7 +95,7 @@ impl Reason {
             Reason::OperandTooLarge => "an operand is too large for the order",
             Reason::DenominatorZero => "b is 0",
             Reason::BudgetOutOfRange => "the stint or the budget is out of range",
-            Reason::BufferTooShort => "the buffer is shorter than the result frame",
+            Reason::BufferTooShort => "the buffer is shorter than the frame",
             Reason::PairHeld => "a pair is held already",
             Reason::NothingHeld => "no pair is held",
             Reason::RunNotOver => "the run is not over",

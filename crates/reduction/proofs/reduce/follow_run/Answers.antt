@@ -15,7 +15,7 @@ pub unreachable-requires : need.unreachable-requires
 unreachable-requires g c κs =
     let f = g .F·Follower in
     let e = c .loop-command .inv ∙ ap (λ t. turned (f .turns) t (take (c .loop-command .command-index) (c .args .commands .now))) (c .begin .ensures) in
-    both-ways _ (c .in-Err .ensures tt .0) (takes-next (f .first) (f .accepts) (f .turns) (f .relation) (g .F·Follower·met .follows) (c .args .pair) (c .args .commands .now) (c .loop-command .command-index) _ _ (c .pre .run) (c .pre .running) (c .loop-command-test .taken) e)
+    both-ways _ (c .in-Err .ensures tt .0) (takes-next (f .first) (f .accepts) (f .turns) (f .relation) (g .F·Follower·met .follows) (c .args .pair) (c .args .commands .now) (c .loop-command .command-index) _ (f .table (c .loop-command .follower)) (c .pre .run) (c .pre .running) (c .loop-command-test .taken) e)
 
 pub loop-command-again : need.loop-command-again
 loop-command-again g c =

@@ -157,18 +157,18 @@ bezout-there p s r z h g =
     let b = bare p s r h in
     let t = 2 ^ s .twos in
     let o = pow-pos (s .twos) in
-    let size-x = factor-most (r .x) (pos t) (p .a) (h .values .of-a) (pow-some (s .twos)) in
-    let size-y = factor-most (r .y) (pos t) (p .b) (h .values .of-b) (pow-some (s .twos)) in
-    let e = divides-bare (natAbs (s .a)) t (r .x) (p .a) o (h .values .of-a) (g .divides-x) in
-    let f = divides-bare (natAbs (s .a)) t (r .y) (p .b) o (h .values .of-b) (g .divides-y) in
+    let size-x = factor-most (r .x) (pos t) (p .a) (h .ground .of-a) (pow-some (s .twos)) in
+    let size-y = factor-most (r .y) (pos t) (p .b) (h .ground .of-b) (pow-some (s .twos)) in
+    let e = divides-bare (natAbs (s .a)) t (r .x) (p .a) o (h .ground .of-a) (g .divides-x) in
+    let f = divides-bare (natAbs (s .a)) t (r .y) (p .b) o (h .ground .of-b) (g .divides-y) in
     record {
-      sum = subst₂ (λ i j. uOf (s .a) r *ℤ i +ℤ vOf (s .a) r *ℤ j ≡ pos (divisor s)) (h .values .of-a) (h .values .of-b) (scaled-sum (uOf (s .a) r) (vOf (s .a) r) (r .x) (r .y) (pos t) (pos (natAbs (s .a))) (b .sum));
+      sum = subst₂ (λ i j. uOf (s .a) r *ℤ i +ℤ vOf (s .a) r *ℤ j ≡ pos (divisor s)) (h .ground .of-a) (h .ground .of-b) (scaled-sum (uOf (s .a) r) (vOf (s .a) r) (r .x) (r .y) (pos t) (pos (natAbs (s .a))) (b .sum));
       small-u = λ _. omega (arith, b .small-u, size-y);
-      small-v = λ n. omega (arith, size-x, v-small (natAbs (s .a)) (r .x) (r .y) _ _ (uOf (s .a) r) (vOf (s .a) r) e f (not-fresh s r z (h .some-y) (h .phase)) (some-x n) (h .some-y) (b .small-u) (b .sum));
+      small-v = λ n. omega (arith, size-x, v-small (natAbs (s .a)) (r .x) (r .y) _ _ (uOf (s .a) r) (vOf (s .a) r) e f (not-fresh s r z (h .ground .some-y) (h .phase)) (some-x n) (h .ground .some-y) (b .small-u) (b .sum));
     }
   where
     some-x : (p .a ≡ pos 0 → ⊥) → 1 ≤ natAbs (r .x)
-    some-x n = let w = left-some (r .x) (pos (2 ^ s .twos)) (p .a) (h .values .of-a) n in omega (arith, ints, w)
+    some-x n = let w = left-some (r .x) (pos (2 ^ s .twos)) (p .a) (h .ground .of-a) n in omega (arith, ints, w)
 
 -- ---- both fit the order
 v-fits : (n g : ℕ) (x y u v : ℤ) → 1 ≤ n → natAbs x < 2 ^ n → 1 ≤ natAbs y → g ≤ natAbs y → 2 * natAbs u ≤ natAbs y → u *ℤ x +ℤ v *ℤ y ≡ pos g → natAbs v < 2 ^ n
@@ -188,13 +188,13 @@ cofactors-fit p m need =
     let h = kept-at p m in
     let b = bare p s r h in
     let g = natAbs (s .a) in
-    let size-x = factor-most (r .x) (pos (2 ^ s .twos)) (p .a) (h .values .of-a) (pow-some (s .twos)) in
-    let size-y = factor-most (r .y) (pos (2 ^ s .twos)) (p .b) (h .values .of-b) (pow-some (s .twos)) in
+    let size-x = factor-most (r .x) (pos (2 ^ s .twos)) (p .a) (h .ground .of-a) (pow-some (s .twos)) in
+    let size-y = factor-most (r .y) (pos (2 ^ s .twos)) (p .b) (h .ground .of-b) (pow-some (s .twos)) in
     let d = divisor-greatest (p .a) (p .b) (p .admitted .2) m need .divides-y in
-    let f = divides-bare g (2 ^ s .twos) (r .y) (p .b) (pow-pos (s .twos)) (h .values .of-b) d in
-    let some-y = some (r .y) (h .some-y) in
+    let f = divides-bare g (2 ^ s .twos) (r .y) (p .b) (pow-pos (s .twos)) (h .ground .of-b) d in
+    let some-y = some (r .y) (h .ground .some-y) in
     let low = factor-most (pos g) (d .quotient) (r .y) (sym f) (right-some (pos g) (d .quotient) (r .y) (sym f) some-y) in
-    (omega (arith, b .small-u, size-y, p .admitted .1), v-fits (orderOf p) g (r .x) (r .y) (uOf (s .a) r) (vOf (s .a) r) (p .order .admitted .0) (omega (arith, size-x, p .admitted .0)) (h .some-y) low (b .small-u) (b .sum))
+    (omega (arith, b .small-u, size-y, p .admitted .1), v-fits (orderOf p) g (r .x) (r .y) (uOf (s .a) r) (vOf (s .a) r) (p .order .admitted .0) (omega (arith, size-x, p .admitted .0)) (h .ground .some-y) low (b .small-u) (b .sum))
   where
     some : (y : ℤ) → 1 ≤ natAbs y → y ≡ pos 0 → ⊥
     some y l e = omega (arith, ints, l, e)

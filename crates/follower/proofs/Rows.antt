@@ -28,9 +28,9 @@ use Rattle.follower.specs.Cofactor.{CofactorRows, firstRows, halvedPair, swapp
 use Rattle.follower.proofs.Following.{turned-more}
 
 -- ---- the values of the rows
-record Values (u z : ℤ) (r : CofactorRows) : Type 0 where
-  first : r .c *ℤ r .x +ℤ r .d *ℤ r .y ≡ u
-  second : r .e *ℤ r .x +ℤ r .f *ℤ r .y ≡ z
+pub record Values (u z : ℤ) (r : CofactorRows) : Type 0 where
+  pub first : r .c *ℤ r .x +ℤ r .d *ℤ r .y ≡ u
+  pub second : r .e *ℤ r .x +ℤ r .f *ℤ r .y ≡ z
 
 -- to add y to e and take x from f changes no value
 values-corrected : (u z : ℤ) (r : CofactorRows) (o : Bool) → Values u z r → Values u z (corrected o r)
@@ -134,13 +134,19 @@ pub record Fresh (s : State ℤ) (r : CofactorRows) : Type 0 where
 abbrev pub Phase : State ℤ → CofactorRows → Type 0
 Phase s r = ((odd (s .a) ≡ true) × ((odd (r .x) || odd (r .y)) ≡ true)) ⊎ Fresh s r
 
+-- the pair without its twos, which no command but B changes
+pub record Ground (p : AdmittedPair) (twos n : ℕ) (x y : ℤ) : Type 0 where
+  pub order : n ≡ orderOf p
+  pub of-a : x *ℤ pos (2 ^ twos) ≡ p .a
+  pub of-b : y *ℤ pos (2 ^ twos) ≡ p .b
+  pub some-y : 1 ≤ natAbs y
+  pub size-x : natAbs x ≤ 2 ^ n
+  pub size-y : natAbs y ≤ 2 ^ n
+
 -- c and e are held by y, d and f by 2^n; a little tighter while b is odd
 pub record Kept (p : AdmittedPair) (s : State ℤ) (r : CofactorRows) : Type 0 where
-  pub order : r .n ≡ orderOf p
-  pub values : CofactorRowsRelated p r s
-  pub some-y : 1 ≤ natAbs (r .y)
-  pub size-x : natAbs (r .x) ≤ 2 ^ r .n
-  pub size-y : natAbs (r .y) ≤ 2 ^ r .n
+  pub ground : Ground p (s .twos) (r .n) (r .x) (r .y)
+  pub values : Values (s .a) (s .b) r
   pub size-c : 2 * natAbs (r .c) ≤ 3 * natAbs (r .y)
   pub size-d : 2 * natAbs (r .d) ≤ 3 * 2 ^ r .n
   pub size-e : natAbs (r .e) ≤ 2 * natAbs (r .y)
@@ -172,11 +178,28 @@ half-scaled z h t w e f = ident (pos (2 ^ t)) (pos (2 ^ suc t)) (ap pos (omega a
     ident : (u v : ℤ) → v ≡ u +ℤ u → h *ℤ v ≡ z *ℤ u
     ident u v g = simp (e, g, out)
 
-values-of : (p : AdmittedPair) (s : State ℤ) (r : CofactorRows) → CofactorRowsRelated p r s → Values (s .a) (s .b) r
-values-of p s r h = record { first = h .first; second = h .second }
-
 abbrev Goes : AdmittedPair → Command → State ℤ → CofactorRows → Type 0
 Goes p k s r = (rowsTake r k ≡ true) × Kept p (obeyed whole k s) (rowsTurn r k)
+
+-- rows that are made ready for halving the second, and what is kept once it is halved
+settles : (p : AdmittedPair) (t : State ℤ) (r : CofactorRows) (E F : ℕ) → Ground p (t .twos) (r .n) (r .x) (r .y) → Halving E F (t .a) (t .b) r → E ≤ 3 * natAbs (r .y) → F ≤ 3 * 2 ^ r .n
+    → 2 * natAbs (r .c) ≤ 3 * natAbs (r .y) → 2 * natAbs (r .d) ≤ 3 * 2 ^ r .n
+    → (odd (t .b) ≡ true → (E ≤ 2 * natAbs (r .y)) × (F ≤ 2 * 2 ^ r .n))
+    → odd (t .a) ≡ true → (odd (r .x) || odd (r .y)) ≡ true
+    → (rowFits (evened r) ≡ true) × Kept p t (halvedRow (evened r))
+settles p t r E F g w le lf c d tight a o = (
+  row-fits E F _ _ r (g .size-x) (g .size-y) (omega (arith, le, g .size-y)) lf w,
+  record {
+    ground = g;
+    values = w .values;
+    size-c = c;
+    size-d = d;
+    size-e = omega (arith, w .size-e, le);
+    size-f = omega (arith, w .size-f, lf, g .size-x);
+    tight = λ k. let l = tight k in (omega (arith, w .size-e, l .0), omega (arith, w .size-f, l .1, g .size-x));
+    phase = inl (a, o);
+  },
+)
 
 goes-by : (p : AdmittedPair) (s : State ℤ) (r : CofactorRows) (i j q z : Bool) → odd (s .a) ≡ i → odd (s .b) ≡ j → fourfold (s .a +ℤ s .b) ≡ q → Kept p s r → Goes p (commandBy i j q z) s r
 goes-by p s r false false q z a b g h =
@@ -185,16 +208,21 @@ goes-by p s r false false q z a b g h =
     let even-y = odd-no (r .y) (ap odd (w .is-y) ∙ b) in
     let i : half (r .x) ≡ half (s .a) = ap half (w .is-x) in
     let j : half (r .y) ≡ half (s .b) = ap half (w .is-y) in
-    let some-y : 1 ≤ natAbs (half (r .y)) = omega (arith, ints, h .some-y) in
+    let some-y : 1 ≤ natAbs (half (r .y)) = omega (arith, ints, h .ground .some-y) in
     let one : natAbs (r .c) ≡ 1 = ap natAbs (w .is-c) in
     let none : natAbs (r .e) ≡ 0 = ap natAbs (w .is-e) in (
       and-from _ _ (ap (λ x. not (odd x)) (w .is-x) ∙ ap not a) (ap (λ x. not (odd x)) (w .is-y) ∙ ap not b),
       record {
-        order = h .order;
-        values = record { first = row-one _ _ _ _ _ (w .is-c) (w .is-d) i; second = row-two _ _ _ _ _ (w .is-e) (w .is-f) j; of-a = half-scaled (r .x) (half (r .x)) (s .twos) (p .a) even-x (h .values .of-a); of-b = half-scaled (r .y) (half (r .y)) (s .twos) (p .b) even-y (h .values .of-b) };
-        some-y = some-y;
-        size-x = omega (arith, ints, even-x, h .size-x);
-        size-y = omega (arith, ints, even-y, h .size-y);
+        ground =
+            record {
+              order = h .ground .order;
+              of-a = half-scaled (r .x) (half (r .x)) (s .twos) (p .a) even-x (h .ground .of-a);
+              of-b = half-scaled (r .y) (half (r .y)) (s .twos) (p .b) even-y (h .ground .of-b);
+              some-y = some-y;
+              size-x = omega (arith, ints, even-x, h .ground .size-x);
+              size-y = omega (arith, ints, even-y, h .ground .size-y);
+            };
+        values = record { first = row-one _ _ _ _ _ (w .is-c) (w .is-d) i; second = row-two _ _ _ _ _ (w .is-e) (w .is-f) j };
         size-c = omega arith;
         size-d = h .size-d;
         size-e = omega arith;
@@ -205,81 +233,25 @@ goes-by p s r false false q z a b g h =
     )
 goes-by p s r false true q z a b g h =
     let o = some-odd s r (or-right _ _ b) (h .phase) in
-    let w = halving (2 * natAbs (r .y)) (2 * 2 ^ r .n) (s .b) (s .a) (half (s .a)) (swapped true r) (values-swapped _ _ r (values-of p s r (h .values))) (odd-no (s .a) a) o (omega (arith, h .size-c)) (omega (arith, h .size-d)) in
-    let i = h .tight b in (
-      row-fits _ _ _ _ (swapped true r) (h .size-x) (h .size-y) (omega (arith, h .size-y)) (omega arith) w,
-      record {
-        order = h .order;
-        values = record { first = w .values .first; second = w .values .second; of-a = h .values .of-a; of-b = h .values .of-b };
-        some-y = h .some-y;
-        size-x = h .size-x;
-        size-y = h .size-y;
-        size-c = i .0;
-        size-d = i .1;
-        size-e = omega (arith, w .size-e);
-        size-f = omega (arith, w .size-f, h .size-x);
-        tight = λ _. (omega (arith, w .size-e), omega (arith, w .size-f, h .size-x));
-        phase = inl (b, o);
-      },
-    )
+    let i = h .tight b in
+    let w = halving (2 * natAbs (r .y)) (2 * 2 ^ r .n) (s .b) (s .a) (half (s .a)) (swapped true r) (values-swapped _ _ r (h .values)) (odd-no (s .a) a) o (omega (arith, h .size-c)) (omega (arith, h .size-d)) in
+    settles p _ (swapped true r) _ _ (h .ground) w (omega arith) (omega arith) (i .0) (i .1) (λ _. (omega arith, omega arith)) b o
 goes-by p s r true false q z a b g h =
     let o = some-odd s r (or-left _ _ a) (h .phase) in
-    let w = halving (2 * natAbs (r .y)) (2 * 2 ^ r .n) (s .a) (s .b) (half (s .b)) r (values-of p s r (h .values)) (odd-no (s .b) b) o (h .size-e) (h .size-f) in (
-      row-fits _ _ _ _ r (h .size-x) (h .size-y) (omega (arith, h .size-y)) (omega arith) w,
-      record {
-        order = h .order;
-        values = record { first = w .values .first; second = w .values .second; of-a = h .values .of-a; of-b = h .values .of-b };
-        some-y = h .some-y;
-        size-x = h .size-x;
-        size-y = h .size-y;
-        size-c = h .size-c;
-        size-d = h .size-d;
-        size-e = omega (arith, w .size-e);
-        size-f = omega (arith, w .size-f, h .size-x);
-        tight = λ _. (omega (arith, w .size-e), omega (arith, w .size-f, h .size-x));
-        phase = inl (a, o);
-      },
-    )
+    let w = halving (2 * natAbs (r .y)) (2 * 2 ^ r .n) (s .a) (s .b) (half (s .b)) r (h .values) (odd-no (s .b) b) o (h .size-e) (h .size-f) in
+    settles p _ r _ _ (h .ground) w (omega arith) (omega arith) (h .size-c) (h .size-d) (λ _. (omega arith, omega arith)) a o
 goes-by p s r true true q false a b g h =
     let o = some-odd s r (or-left _ _ a) (h .phase) in
     let i = h .tight b in
     let j = joins (s .a) (s .b) q a b g in
-    let w = joining (3 * natAbs (r .y)) (3 * 2 ^ r .n) (s .a) (s .b) _ r q j (values-of p s r (h .values)) o (h .size-c) (h .size-d) (i .0) (i .1) in (
-      row-fits _ _ _ _ (combined (signBy q) r) (h .size-x) (h .size-y) (omega (arith, h .size-y)) (omega arith) w,
-      record {
-        order = h .order;
-        values = record { first = w .values .first; second = w .values .second; of-a = h .values .of-a; of-b = h .values .of-b };
-        some-y = h .some-y;
-        size-x = h .size-x;
-        size-y = h .size-y;
-        size-c = h .size-c;
-        size-d = h .size-d;
-        size-e = omega (arith, w .size-e);
-        size-f = omega (arith, w .size-f, h .size-x);
-        tight = λ k. absurd (both-ways _ (j .even) k);
-        phase = inl (a, o);
-      },
-    )
+    let w = joining (3 * natAbs (r .y)) (3 * 2 ^ r .n) (s .a) (s .b) _ r q j (h .values) o (h .size-c) (h .size-d) (i .0) (i .1) in
+    settles p _ (combined (signBy q) r) _ _ (h .ground) w (omega arith) (omega arith) (h .size-c) (h .size-d) (λ k. absurd (both-ways _ (j .even) k)) a o
 goes-by p s r true true q true a b g h =
     let o = some-odd s r (or-left _ _ a) (h .phase) in
     let i = h .tight b in
     let j = joins (s .b) (s .a) q b a (ap fourfold (+ℤ-comm (s .b) (s .a)) ∙ g) in
-    let w = joining (3 * natAbs (r .y)) (3 * 2 ^ r .n) (s .b) (s .a) _ (swapped true r) q j (values-swapped _ _ r (values-of p s r (h .values))) o (i .0) (i .1) (h .size-c) (h .size-d) in (
-      row-fits _ _ _ _ (combined (signBy q) (swapped true r)) (h .size-x) (h .size-y) (omega (arith, h .size-y)) (omega arith) w,
-      record {
-        order = h .order;
-        values = record { first = w .values .first; second = w .values .second; of-a = h .values .of-a; of-b = h .values .of-b };
-        some-y = h .some-y;
-        size-x = h .size-x;
-        size-y = h .size-y;
-        size-c = i .0;
-        size-d = i .1;
-        size-e = omega (arith, w .size-e);
-        size-f = omega (arith, w .size-f, h .size-x);
-        tight = λ k. absurd (both-ways _ (j .even) k);
-        phase = inl (b, o);
-      },
-    )
+    let w = joining (3 * natAbs (r .y)) (3 * 2 ^ r .n) (s .b) (s .a) _ (swapped true r) q j (values-swapped _ _ r (h .values)) o (i .0) (i .1) (h .size-c) (h .size-d) in
+    settles p _ (combined (signBy q) (swapped true r)) _ _ (h .ground) w (omega arith) (omega arith) (i .0) (i .1) (λ k. absurd (both-ways _ (j .even) k)) b o
 
 goes : (p : AdmittedPair) (s : State ℤ) (r : CofactorRows) → Kept p s r → Goes p (command whole s) s r
 unfolding command
@@ -289,13 +261,11 @@ kept-start : (p : AdmittedPair) → Kept p (startOf p) (firstRows p)
 kept-start p =
     let k = pow-pos (orderOf p) in
     let h = p .admitted in
+    let o = some (p .b) (h .2) in
     record {
-      order = refl;
-      values = record { first = row-one (pos 1) (pos 0) (p .a) (p .b) (p .a) refl refl refl; second = row-two (pos 0) (pos 1) (p .a) (p .b) (p .b) refl refl refl; of-a = *ℤ-unit (p .a); of-b = *ℤ-unit (p .b) };
-      some-y = some (p .b) (h .2);
-      size-x = omega (arith, h .0);
-      size-y = omega (arith, h .1);
-      size-c = omega (arith, some (p .b) (h .2));
+      ground = record { order = refl; of-a = *ℤ-unit (p .a); of-b = *ℤ-unit (p .b); some-y = o; size-x = omega (arith, h .0); size-y = omega (arith, h .1) };
+      values = record { first = row-one (pos 1) (pos 0) (p .a) (p .b) (p .a) refl refl refl; second = row-two (pos 0) (pos 1) (p .a) (p .b) (p .b) refl refl refl };
+      size-c = omega (arith, o);
       size-d = omega arith;
       size-e = omega arith;
       size-f = omega arith;
@@ -333,6 +303,6 @@ cofactor-follows p k run =
     let h = kept-at p k in
     let e = sym (cofactor-table p k) in
     record {
-      related = subst (λ t. CofactorRelated p t s) e (h .values);
+      related = subst (λ t. CofactorRelated p t s) e (record { first = h .values .first; second = h .values .second; of-a = h .ground .of-a; of-b = h .ground .of-b });
       takes = λ _. subst (λ t. cofactorAccepts t (command whole s) ≡ true) e (goes p s (rowsAt p k) h .0);
     }

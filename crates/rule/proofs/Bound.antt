@@ -55,6 +55,27 @@ spent k Below n zero f t l r = absurd (omega arith)
 spent k Below n (suc d) f t l r =
     (d, refl, record { α = r .α; β = r .β; below-a = r .below-a; below-b = r .below-b; apart = r .apart; room-a = r .room-a; room-b = r .room-b; phase = r .phase; fuel = omega (arith, r .fuel) })
 
+-- plus or minus of odd x and y, where the size of x is below that of y
+joined-room : {K : Type 0} (k : Kind K) (Below : ℕ → K → Type 0) → Laws k Below → (n e α β w c : ℕ) (x y : K) (d : ℤ) (r : Bool)
+    → k .odd x ≡ true → k .odd y ≡ true → k .fourfold (k .plus x y) ≡ r → Below α x → Below β y → α ≤ β
+    → d +ℤ pos β ≡ pos α → α + w ≤ n → β + w ≤ n → 2 * (α + β) < e
+    → Spent k Below n e (record { a = x; b = k .half (summed k (signBy r) x y); δ = d; twos = w; count = c })
+joined-room k Below laws n e α β w c x y d r o p g i j l f u v h =
+    let even = subst (λ q. k .odd (k .half (summed k (signBy q) x y)) ≡ false) g (laws .joined-even x y o p) in
+    let below = laws .joined-below β x y o p (laws .below-more α β x l i) j in
+    spent k Below n e (2 * (α + β)) _ h
+    (record {
+      α = α;
+      β = β;
+      below-a = i;
+      below-b = subst (λ q. Below β (k .half (summed k (signBy q) x y))) g below;
+      apart = f;
+      room-a = u;
+      room-b = v;
+      phase = inl o;
+      fuel = omega (arith, ap bit even);
+    })
+
 burns-by : {K : Type 0} (k : Kind K) (Below : ℕ → K → Type 0) → Laws k Below → (n e : ℕ) (s : State K) (p q r x : Bool)
     → k .odd (s .a) ≡ p → k .odd (s .b) ≡ q → k .fourfold (k .plus (s .a) (s .b)) ≡ r → leZ (pos 0) (s .δ) ≡ x
     → Room k Below n e s → k .isZero (s .b) ≡ false → Spent k Below n e (obeyed k (commandBy p q r x) s)
@@ -103,38 +124,9 @@ burns-by k Below laws n e s true false r x a b g d h z =
       fuel = omega arith;
     })
 burns-by k Below laws n e s true true r false a b g d h z =
-    let o : h .α ≤ h .β = omega (arith, ints, h .apart) in
-    let v = laws .joined-even (s .a) (s .b) a b in
-    let c = laws .joined-below (h .β) (s .a) (s .b) a b (laws .below-more (h .α) (h .β) (s .a) o (h .below-a)) (h .below-b) in
-    spent k Below n e (2 * (h .α + h .β)) _ (omega (arith, h .fuel, ap bit b))
-    (record {
-      α = h .α;
-      β = h .β;
-      below-a = h .below-a;
-      below-b = subst (λ q. Below (h .β) (k .half (summed k (signBy q) (s .a) (s .b)))) g c;
-      apart = omega (arith, ints, h .apart);
-      room-a = h .room-a;
-      room-b = h .room-b;
-      phase = inl a;
-      fuel = omega (arith, ap bit (subst (λ q. k .odd (k .half (summed k (signBy q) (s .a) (s .b))) ≡ false) g v));
-    })
+    joined-room k Below laws n e (h .α) (h .β) (s .twos) _ (s .a) (s .b) _ r a b g (h .below-a) (h .below-b) (omega (arith, ints, h .apart)) (omega (arith, ints, h .apart)) (h .room-a) (h .room-b) (omega (arith, h .fuel, ap bit b))
 burns-by k Below laws n e s true true r true a b g d h z =
-    let o : h .β ≤ h .α = omega (arith, ints, h .apart) in
-    let g : k .fourfold (k .plus (s .b) (s .a)) ≡ r = ap (k .fourfold) (laws .plus-comm (s .b) (s .a)) ∙ g in
-    let v = laws .joined-even (s .b) (s .a) b a in
-    let c = laws .joined-below (h .α) (s .b) (s .a) b a (laws .below-more (h .β) (h .α) (s .b) o (h .below-b)) (h .below-a) in
-    spent k Below n e (2 * (h .β + h .α)) _ (omega (arith, h .fuel, ap bit b))
-    (record {
-      α = h .β;
-      β = h .α;
-      below-a = h .below-b;
-      below-b = subst (λ q. Below (h .α) (k .half (summed k (signBy q) (s .b) (s .a)))) g c;
-      apart = omega (arith, ints, h .apart);
-      room-a = h .room-b;
-      room-b = h .room-a;
-      phase = inl b;
-      fuel = omega (arith, ap bit (subst (λ q. k .odd (k .half (summed k (signBy q) (s .b) (s .a))) ≡ false) g v));
-    })
+    joined-room k Below laws n e (h .β) (h .α) (s .twos) _ (s .b) (s .a) _ r b a (ap (k .fourfold) (laws .plus-comm (s .b) (s .a)) ∙ g) (h .below-b) (h .below-a) (omega (arith, ints, h .apart)) (omega (arith, ints, h .apart)) (h .room-b) (h .room-a) (omega (arith, h .fuel, ap bit b))
 
 pub burns : {K : Type 0} (k : Kind K) (Below : ℕ → K → Type 0) → Laws k Below → (n : ℕ) → Burns k (Room k Below n)
 unfolding next command

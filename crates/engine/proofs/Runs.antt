@@ -1,15 +1,14 @@
 -- A run that is under way, one command more of it, and its end.
 use Prim.Native.Nat.{ℕ, suc, _+_, _*_, _^_, _<_, _≤_}
 use mathlib.Core.Path.{_≡_, refl, sym, ap, ap₂, _∙_, subst}
-use mathlib.Core.Bool.{true, false}
 use mathlib.Core.List.{List, [], _∷_, _++_}
 use native.Mathlib.Omega.{arith}
-use lib.IntN.{ℤ, natAbs}
+use lib.IntN.{natAbs}
 use lib.ListN.{length, length-append}
 use lib.Pow.{pow-mono}
 use Rattle.std.specs.declared.result.Result.the-variants.{Ok, Err}
 use Rattle.rule.specs.Rule.{after, told, Running, Need}
-use Rattle.rule.specs.Whole.{isZero, whole}
+use Rattle.rule.specs.Whole.{whole}
 use Rattle.rule.specs.Divisor.{Greatest, divisor}
 use Rattle.rule.specs.Theorems.{Narrow}
 use Rattle.rule.specs.declared.command.Command.{Command}

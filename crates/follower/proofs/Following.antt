@@ -1,6 +1,6 @@
 -- Tables after lists of commands, and two followers side by side.
-use mathlib.Core.Path.{_≡_, refl, sym, ap, subst}
-use mathlib.Core.Bool.{Bool, true, _&&_}
+use mathlib.Core.Path.{_≡_, refl}
+use mathlib.Core.Bool.{Bool, _&&_}
 use mathlib.Core.List.{List, [], _∷_, _++_}
 use lib.IntN.{ℤ}
 use Rattle.std.proofs.shelf.Tests.{and-from}
@@ -9,7 +9,7 @@ use Rattle.rule.specs.Pairs.{startOf}
 use Rattle.rule.specs.Whole.{whole}
 use Rattle.rule.specs.declared.command.Command.{Command}
 use Rattle.rule.specs.declared.pair.AdmittedPair.{AdmittedPair}
-use Rattle.follower.specs.Following.{turned, FollowsTo, Follows}
+use Rattle.follower.specs.Following.{turned, Follows}
 
 pub turned-more : {T : Type 0} (turns : T → Command → T) (t : T) (cs : List Command) (c : Command) → turned turns t (cs ++ c ∷ []) ≡ turns (turned turns t cs) c
 unfolding turned

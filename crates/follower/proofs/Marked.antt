@@ -1,13 +1,10 @@
 -- The followers do to the marked pairs what stands beside them, by computing.
-use Prim.Native.Nat.{ℕ}
-use mathlib.Core.Path.{_≡_, refl, sym, ap, _∙_}
-use mathlib.Core.List.{List, _∷_}
-use lib.IntN.{ℤ, pos}
+use mathlib.Core.Path.{_≡_, refl, ap, _∙_}
+use lib.IntN.{pos}
 use lib.ListN.{length}
 use Rattle.std.specs.declared.option.Option.{Option}
 use Rattle.std.specs.declared.option.Option.the-variants.{Some}
 use Rattle.rule.specs.Marked.{Line, Holds}
-use Rattle.rule.specs.Pairs.{orderOf}
 use Rattle.rule.specs.Rule.{start, command, next, after}
 use Rattle.rule.specs.Whole.{odd, half, fourfold, whole}
 use Rattle.rule.specs.declared.pair.AdmittedPair.{AdmittedPair}

@@ -2,13 +2,12 @@
 use Prim.Native.Nat.{ℕ, zero, suc, _+_, _*_, _≤_, _<_, _^_}
 use mathlib.Core.Path.{_≡_, refl, sym, ap, _∙_, subst, subst₂}
 use mathlib.Core.Bool.{Bool, true, false, _||_}
-use mathlib.Core.Logic.{_⊎_, inl, inr}
+use mathlib.Core.Logic.{inl, inr}
 use native.Mathlib.Omega.{arith}
 use native.Mathlib.Nat.{mul-one, le-of-mul-le-mul-right, mul-le-mul-right}
 use lib.Dec.{ltb}
-use lib.IntN.{ℤ, pos, negsuc, _+ℤ_, _-ℤ_, _*ℤ_, negℤ, natAbs}
+use lib.IntN.{ℤ, pos, _+ℤ_, _-ℤ_, _*ℤ_, negℤ, natAbs}
 use lib.Pow.{pow-mono, pow-pos}
-use lib.Signed.{ltZ}
 use Rattle.std.proofs.shelf.Signed.{ints}
 use Rattle.std.proofs.shelf.Tests.{cases-bool, both-ways, ltb-true, ltb-false}
 use Rattle.rule.specs.Divisor.{Divides, Greatest, divisor}
@@ -16,7 +15,7 @@ use Rattle.rule.specs.Pairs.{orderOf, startOf}
 use Rattle.rule.specs.Rule.{State, after, Need}
 use Rattle.rule.specs.Whole.{odd, half, whole, Below}
 use Rattle.rule.specs.declared.pair.AdmittedPair.{AdmittedPair}
-use Rattle.rule.proofs.Divisor.{divisor-greatest, greatest-most}
+use Rattle.rule.proofs.Divisor.{divisor-greatest}
 use Rattle.rule.proofs.Ring.{out, lin}
 use Rattle.rule.proofs.Whole.{zero-yes}
 use Rattle.rule.proofs.Parity.{odd-yes, odd-no, odd-double}
@@ -25,7 +24,7 @@ use Rattle.follower.specs.Signs.{isNegative, negatedBy}
 use Rattle.follower.proofs.Negated.{negated-size}
 use Rattle.follower.specs.Cofactor.{CofactorRows}
 use Rattle.follower.specs.Readout.{alike, moved, cOf, isFar, isLess, uOf, vOf, Bezout, TableCofactors, Cofactors-right}
-use Rattle.follower.proofs.Rows.{Fresh, Phase, Kept, rowsAt, kept-at, cofactor-table}
+use Rattle.follower.proofs.Rows.{Phase, Kept, rowsAt, kept-at, cofactor-table}
 
 -- ---- the sum
 -- the row, with the sign of a, gives |a|

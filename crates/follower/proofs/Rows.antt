@@ -1,20 +1,19 @@
 -- The cofactor follower takes every command of the run of its pair, and stays in its relation.
-use Prim.Native.Nat.{ℕ, zero, suc, _+_, _*_, _≤_, _<_, _^_}
+use Prim.Native.Nat.{ℕ, zero, suc, _+_, _*_, _≤_, _^_}
 use mathlib.Core.Path.{_≡_, refl, sym, ap, ap₂, _∙_, subst, subst₂}
 use mathlib.Core.Bool.{Bool, true, false, _||_, _&&_, not}
-use mathlib.Core.List.{List, [], _∷_, _++_}
+use mathlib.Core.List.{List, [], _∷_}
 use mathlib.Core.Logic.{_⊎_, inl, inr}
 use native.Mathlib.Omega.{arith}
-use lib.IntN.{ℤ, pos, negsuc, _+ℤ_, _-ℤ_, _*ℤ_, negℤ, natAbs, +ℤ-comm}
+use lib.IntN.{ℤ, pos, _+ℤ_, _-ℤ_, _*ℤ_, negℤ, natAbs, +ℤ-comm}
 use lib.Signed.{leZ, ltZ}
 use lib.Pow.{pow-add, pow-pos}
 use Rattle.std.proofs.shelf.Signed.{ints}
 use Rattle.std.proofs.shelf.Tests.{both-ways, or-parts, or-left, or-right, and-from}
-use Rattle.std.specs.declared.option.Option.{Option}
 use Rattle.std.specs.declared.option.Option.the-variants.{Some}
 use Rattle.rule.specs.Kind.{signBy, summed}
 use Rattle.rule.specs.Pairs.{orderOf, startOf}
-use Rattle.rule.specs.Rule.{State, commandBy, command, obeyed, next, after, told, Running}
+use Rattle.rule.specs.Rule.{State, commandBy, command, obeyed, next, after, told}
 use Rattle.rule.specs.Whole.{odd, half, fourfold, whole}
 use Rattle.rule.specs.declared.command.Sign.{Sign}
 use Rattle.rule.specs.declared.command.Sign.the-variants.{Plus, Minus}
@@ -23,8 +22,8 @@ use Rattle.rule.specs.declared.pair.AdmittedPair.{AdmittedPair}
 use Rattle.rule.proofs.Ring.{out, lin, *ℤ-unit}
 use Rattle.rule.proofs.Parity.{odd-no, odd-double, Joins, joins, xor, parity}
 use Rattle.rule.proofs.Fuel.{after-more, told-more}
-use Rattle.follower.specs.Following.{turned, tableAt, FollowsTo, Follows}
-use Rattle.follower.specs.Cofactor.{CofactorRows, firstRows, halvedPair, swapped, combined, corrected, evened, halvedRow, readied, inRange, rowFits, rowsTake, rowsTurn, CofactorRowsRelated, cofactorFirst, cofactorAccepts, cofactorTurns, CofactorRelated}
+use Rattle.follower.specs.Following.{turned, tableAt, Follows}
+use Rattle.follower.specs.Cofactor.{CofactorRows, firstRows, swapped, combined, corrected, evened, halvedRow, inRange, rowFits, rowsTake, rowsTurn, cofactorFirst, cofactorAccepts, cofactorTurns, CofactorRelated}
 use Rattle.follower.proofs.Following.{turned-more}
 
 -- ---- the values of the rows

@@ -1,5 +1,5 @@
 -- How large the entries of the cofactor follower get.
-use Prim.Native.Nat.{ℕ, _+_, _*_, _^_, _<_, _≤_}
+use Prim.Native.Nat.{ℕ, _+_, _^_, _≤_}
 use mathlib.Core.Path.{_≡_}
 use mathlib.Core.Bool.{Bool, true, false, not, _&&_}
 use native.Mathlib.Omega.{arith}
@@ -8,7 +8,7 @@ use lib.Signed.{leZ, ltZ}
 use lib.Pow.{pow-mono}
 use Rattle.std.proofs.shelf.Signed.{ints}
 use Rattle.std.proofs.shelf.Tests.{and-parts, not-true}
-use Rattle.rule.specs.Whole.{odd, half}
+use Rattle.rule.specs.Whole.{odd}
 use Rattle.rule.specs.declared.command.Sign.{Sign}
 use Rattle.rule.specs.declared.command.Sign.the-variants.{Plus, Minus}
 use Rattle.rule.proofs.Parity.{odd-no}

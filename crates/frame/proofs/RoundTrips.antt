@@ -1,6 +1,6 @@
 -- Frames and back.
-use Prim.Native.Nat.{ℕ, suc, _+_, _*_, _/_, _%_, _^_, _<_, _≤_}
-use mathlib.Core.Path.{_≡_, refl, sym, ap, ap₂, _∙_, subst}
+use Prim.Native.Nat.{ℕ, _+_, _*_, _/_, _%_, _^_, _<_, _≤_}
+use mathlib.Core.Path.{_≡_, refl, sym, ap, ap₂, _∙_}
 use mathlib.Core.List.{List, [], _∷_, _++_}
 use native.Mathlib.Omega.{arith}
 use native.Mathlib.Numerals.{add-one}
@@ -19,12 +19,11 @@ use Rattle.std.proofs.shelf.Tests.{eq-eqb, ne-eqb, le-leb, lt-leb}
 use Rattle.std.proofs.shelf.Signed.{ints}
 use Rattle.rule.specs.Admission.{width, orderObjection, pairObjection}
 use Rattle.rule.specs.Admitted.{OrderAdmitted, OperandsAdmitted}
-use Rattle.rule.specs.Whole.{Below}
 use Rattle.rule.specs.declared.fault.Fault.{Fault}
 use Rattle.rule.specs.declared.pair.AdmittedPair.{AdmittedPair}
 use Rattle.frame.specs.Numbers.{word, signedBytes, signedValue}
 use Rattle.frame.specs.Frames.{pairFrame}
-use Rattle.frame.specs.Reading.{read, headObjection, then, checked, reading, Reads, Framed}
+use Rattle.frame.specs.Reading.{read, headObjection, then, checked, Reads, Framed}
 use Rattle.frame.specs.Theorems.{Pair-read-back, Frame-unique, Number-read-back}
 use Rattle.frame.proofs.Numbers.{length-signedBytes, read-back, bytes-of-value}
 use Rattle.frame.proofs.Reading.{reading-headed, head-filled}

@@ -1,7 +1,7 @@
 -- The frames as lists of bytes.
 use Prim.Native.Nat.{ℕ, _+_, _*_}
-use mathlib.Core.List.{List, [], _∷_, _++_}
-use lib.IntN.{ℤ, pos}
+use mathlib.Core.List.{List, _∷_, _++_}
+use lib.IntN.{ℤ}
 use Rattle.rule.specs.Admission.{width}
 use Rattle.frame.specs.Numbers.{twoBytes, signedBytes}
 

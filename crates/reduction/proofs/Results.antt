@@ -1,16 +1,15 @@
 -- What followers that were told a whole run read out is right, and fits.
-use Prim.Native.Nat.{ℕ, _+_, _*_, _^_, _<_, _≤_}
-use mathlib.Core.Path.{_≡_, refl, sym, ap, ap₂, _∙_, subst, subst₂}
+use Prim.Native.Nat.{ℕ, _^_, _<_, _≤_}
+use mathlib.Core.Path.{_≡_, sym, ap, ap₂, _∙_, subst}
 use native.Mathlib.Omega.{arith}
 use mathlib.Core.List.{List}
-use lib.IntN.{ℤ, pos, natAbs}
+use lib.IntN.{ℤ}
 use lib.ListN.{length}
 use Rattle.std.specs.Of.Vec.{vec-items}
 use Rattle.std.specs.declared.option.Option.{Option}
 use Rattle.std.specs.declared.option.Option.the-variants.{Some, None}
-use Rattle.rule.specs.Divisor.{Greatest, divisor}
 use Rattle.rule.specs.Pairs.{orderOf, startOf}
-use Rattle.rule.specs.Rule.{after, told, Need}
+use Rattle.rule.specs.Rule.{told}
 use Rattle.rule.specs.Whole.{whole, Below}
 use Rattle.rule.specs.declared.command.Command.{Command}
 use Rattle.rule.specs.declared.pair.AdmittedPair.{AdmittedPair}
@@ -22,7 +21,7 @@ use Rattle.engine.specs.Runs.{spent, ending, Finished}
 use Rattle.engine.specs.declared.run.Run.{Run}
 use Rattle.follower.specs.Following.{tableAt}
 use Rattle.follower.specs.Cofactor.{CofactorRows, cofactorFirst, cofactorTurns}
-use Rattle.follower.specs.Fraction.{FractionRows, fractionFirst, fractionTurns, numeratorOf, denominatorOf, Reduced, ReadsReduced, TableReduced}
+use Rattle.follower.specs.Fraction.{FractionRows, fractionFirst, fractionTurns, Reduced, TableReduced}
 use Rattle.follower.specs.FractionTable.{readOut}
 use Rattle.follower.specs.Readout.{uOf, vOf, cofactorsAt, Bezout}
 use Rattle.follower.specs.declared.entries.Cofactors.{Cofactors}

@@ -1,5 +1,5 @@
 // The reduction of a pair: its run on any engine, told to the followers, and what they end with (docs/FOLLOWERS.md).
-ghost use Prim.Native.Nat.{ℕ, _*_, _≤_};
+ghost use Prim.Native.Nat.{_*_, _≤_};
 ghost use mathlib.Core.Path.{_≡_};
 ghost use lib.ListN.{length};
 ghost use Rattle.rule.specs.Pairs.{orderOf, startOf};

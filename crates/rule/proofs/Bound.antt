@@ -1,14 +1,14 @@
 -- Why a run of order n ends within 4n + 1 commands, for every kind of number that keeps the laws.
 use Prim.Native.Nat.{ℕ, zero, suc, _+_, _*_, _<_, _≤_}
-use mathlib.Core.Path.{_≡_, refl, sym, ap, _∙_, subst}
+use mathlib.Core.Path.{_≡_, refl, ap, _∙_, subst}
 use mathlib.Core.Bool.{Bool, true, false}
 use mathlib.Core.Logic.{_⊎_, inl, inr}
 use native.Mathlib.Omega.{arith}
-use lib.IntN.{ℤ, pos, _+ℤ_, negℤ, natAbs}
+use lib.IntN.{ℤ, pos, _+ℤ_}
 use lib.Signed.{leZ}
 use Rattle.std.proofs.shelf.Signed.{ints}
 use Rattle.std.proofs.shelf.Tests.{both-ways}
-use Rattle.rule.specs.Kind.{Kind, Laws, signBy, summed, joined}
+use Rattle.rule.specs.Kind.{Kind, Laws, signBy, summed}
 use Rattle.rule.specs.Rule.{State, start, commandBy, command, obeyed, next, after, Running, Need}
 use Rattle.rule.proofs.Fuel.{Burns, fuel-after, ends-within}
 

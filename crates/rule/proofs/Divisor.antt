@@ -7,12 +7,12 @@ use lib.IntN.{ℤ, pos, negsuc, _+ℤ_, _-ℤ_, _*ℤ_, negℤ, natAbs, +ℤ-com
 use lib.Signed.{leZ}
 use Rattle.std.proofs.shelf.Signed.{ints}
 use Rattle.rule.specs.Kind.{signBy, summed}
-use Rattle.rule.specs.Rule.{State, start, commandBy, command, obeyed, next, after, Need}
+use Rattle.rule.specs.Rule.{State, start, commandBy, command, obeyed, next, after}
 use Rattle.rule.specs.Whole.{odd, half, fourfold, whole}
 use Rattle.rule.specs.Divisor.{Divides, Greatest, divisor}
 use Rattle.rule.specs.Theorems.{Divisor-greatest}
 use Rattle.rule.proofs.Ring.{out, lin, *ℤ-unit, neg-neg}
-use Rattle.rule.proofs.Parity.{odd-yes, odd-no, Joins, joins}
+use Rattle.rule.proofs.Parity.{odd-yes, odd-no, joins}
 use Rattle.rule.proofs.Whole.{zero-yes}
 
 -- ---- what divides two numbers divides their combinations

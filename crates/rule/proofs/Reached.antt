@@ -1,14 +1,14 @@
 -- A run goes from reached state to reached state, and all of them are narrow.
-use Prim.Native.Nat.{ℕ, suc, _^_, _<_, _≤_}
+use Prim.Native.Nat.{ℕ, _^_, _≤_}
 use mathlib.Core.Path.{_≡_, refl, sym, ap, _∙_, subst}
 use mathlib.Core.Bool.{Bool, true, false}
-use mathlib.Core.Logic.{∥∥₁-elim, ∥∥₁-map}
+use mathlib.Core.Logic.{∥∥₁-elim}
 use native.Mathlib.Omega.{arith}
 use native.Mathlib.Bridge.{le-prop}
 use lib.Pow.{pow-mono}
 use lib.IntN.{ℤ}
 use Rattle.rule.specs.Rule.{State, start, exchanged, next, after, Running}
-use Rattle.rule.specs.Whole.{isZero, whole, Below}
+use Rattle.rule.specs.Whole.{isZero, whole}
 use Rattle.rule.specs.Admitted.{OperandsAdmitted}
 use Rattle.rule.specs.Theorems.{Narrow}
 use Rattle.rule.specs.Reached.{Reached}

@@ -1,18 +1,18 @@
 -- Whole numbers: the laws that the bound rests on, exact halvings, and how narrow a run stays.
-use Prim.Native.Nat.{ℕ, zero, suc, _+_, _*_, _^_, _<_, _≤_}
+use Prim.Native.Nat.{ℕ, _+_, _*_, _^_, _<_, _≤_}
 use mathlib.Core.Path.{_≡_, refl, sym, ap, _∙_}
 use mathlib.Core.Bool.{Bool, true, false}
 use native.Mathlib.Omega.{arith}
-use lib.IntN.{ℤ, pos, _+ℤ_, _-ℤ_, natAbs, +ℤ-comm}
+use lib.IntN.{ℤ, pos, _+ℤ_, natAbs, +ℤ-comm}
 use lib.Pow.{pow-mono}
 use lib.Signed.{leZ}
 use Rattle.std.proofs.shelf.Signed.{ints}
 use Rattle.std.proofs.shelf.Tests.{eqb-true, eqb-false, eq-eqb}
-use Rattle.rule.specs.Kind.{Laws, signBy, summed}
-use Rattle.rule.specs.Rule.{State, start, commandBy, command, obeyed, next, after, Running, Need}
-use Rattle.rule.specs.Whole.{isZero, odd, half, fourfold, whole, Below, Exact}
+use Rattle.rule.specs.Kind.{signBy, summed}
+use Rattle.rule.specs.Rule.{State, start, commandBy, command, obeyed, next, after, Running}
+use Rattle.rule.specs.Whole.{isZero, odd, fourfold, whole, Below, Exact}
 use Rattle.rule.specs.Theorems.{Whole-lawful, Halvings-exact, Need-bounded, Narrow, Run-narrow}
-use Rattle.rule.proofs.Parity.{odd-no, Joins, joins}
+use Rattle.rule.proofs.Parity.{odd-no, joins}
 use Rattle.rule.proofs.Fuel.{count-after}
 use Rattle.rule.proofs.Bound.{Room, need-within, room-after}
 

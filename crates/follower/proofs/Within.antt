@@ -23,9 +23,6 @@ pub within-combined : (g : Sign) (r : CofactorRows) → Within (2 ^ 58) r → Wi
 within-combined Plus r h = record { pair = h .pair; rows = (h .rows .0, h .rows .1, omega (arith, ints, h .rows .0, h .rows .2), omega (arith, ints, h .rows .1, h .rows .3)) }
 within-combined Minus r h = record { pair = h .pair; rows = (h .rows .0, h .rows .1, omega (arith, ints, h .rows .0, h .rows .2), omega (arith, ints, h .rows .1, h .rows .3)) }
 
-pub within-more : (r : CofactorRows) → Within (2 ^ 58) r → Within (2 ^ 59) r
-within-more r h = record { pair = h .pair; rows = (h .rows .0, h .rows .1, omega (arith, h .rows .2), omega (arith, h .rows .3)) }
-
 pub within-halved-pair : (r : CofactorRows) → (not (odd (r .x)) && not (odd (r .y))) ≡ true → Within (2 ^ 58) r → Within (2 ^ 58) (halvedPair r)
 within-halved-pair r t h =
     let w = and-parts _ _ t in

@@ -7,7 +7,7 @@ use lib.IntN.{ℤ, pos, _+ℤ_, natAbs, +ℤ-comm}
 use lib.Pow.{pow-mono}
 use lib.Signed.{leZ}
 use Rattle.std.proofs.shelf.Signed.{ints}
-use Rattle.std.proofs.shelf.Tests.{eqb-true, eqb-false, eq-eqb}
+use Rattle.std.proofs.shelf.Tests.{eqb-true, eq-eqb}
 use Rattle.rule.specs.Kind.{signBy, summed}
 use Rattle.rule.specs.Rule.{State, start, commandBy, command, obeyed, next, after, Running}
 use Rattle.rule.specs.Whole.{isZero, odd, fourfold, whole, Below, Exact}
@@ -18,9 +18,6 @@ use Rattle.rule.proofs.Bound.{Room, need-within, room-after}
 
 pub zero-yes : (z : ℤ) → isZero z ≡ true → z ≡ pos 0
 zero-yes z e = omega (arith, ints, eqb-true (natAbs z) 0 e)
-
-pub zero-no : (z : ℤ) → isZero z ≡ false → z ≡ pos 0 → ⊥
-zero-no z e f = eqb-false (natAbs z) 0 e (omega (arith, ints))
 
 -- ---- the laws
 joined-small : (x y m : ℤ) (r : Bool) (H : ℕ) → m +ℤ m ≡ summed whole (signBy r) x y → natAbs x < H → natAbs y < H → natAbs m < H

@@ -19,6 +19,10 @@ Halvings-exact = (s : State ℤ) → Exact (command whole s) s (next whole s)
 abbrev pub Need-bounded : Type 0
 Need-bounded = (n : ℕ) (x y : ℤ) → Below n x → Below n y → (m : ℕ) × Need whole (start x y) m × (m ≤ 4 * n + 1)
 
+-- A run has no more than one need.
+abbrev pub Need-unique : Type 0
+Need-unique = (s : State ℤ) (m n : ℕ) → Need whole s m → Need whole s n → m ≡ n
+
 -- How far the numbers of a state of order n can go.
 pub record Narrow (n : ℕ) (s : State ℤ) : Type 0 where
   pub a : Below n (s .a)

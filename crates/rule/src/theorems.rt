@@ -1,5 +1,5 @@
 // The theorems of the rule, each as the contract of a function (docs/PROVED.md).
-ghost use Rattle.rule.specs.Theorems.{Whole-lawful, Halvings-exact, Need-bounded, Run-narrow, Divisor-greatest};
+ghost use Rattle.rule.specs.Theorems.{Whole-lawful, Halvings-exact, Need-bounded, Need-unique, Run-narrow, Divisor-greatest};
 
 // Whole numbers keep the laws of parity, halving, sums and size that the bound rests on.
 pub fn whole_numbers_are_lawful()
@@ -14,6 +14,11 @@ pub fn halvings_are_exact()
 // The need exists and is at most 4n + 1.
 pub fn need_is_bounded()
     ensures { λ _. ⌜ Need-bounded ⌝ }
+{}
+
+// There is no more than one need.
+pub fn need_is_unique()
+    ensures { λ _. ⌜ Need-unique ⌝ }
 {}
 
 // Along a run of order n every number of the state stays within its width.

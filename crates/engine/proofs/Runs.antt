@@ -17,7 +17,7 @@ use Rattle.rule.specs.declared.pair.AdmittedPair.{AdmittedPair}
 use Rattle.rule.proofs.Fuel.{after-more, told-more, running-more, count-after}
 use Rattle.rule.proofs.Whole.{running-narrow}
 use Rattle.rule.proofs.Divisor.{divisor-greatest, greatest-most}
-use Rattle.std.specs.Of.Vec.{vec-items}
+use Rattle.engine.specs.Listed.{listed}
 use Rattle.rule.specs.Pairs.{orderOf, startOf}
 use Rattle.engine.specs.Meaning.{Meaning, held, Advances, aOf, twosOf}
 use Rattle.engine.specs.Runs.{spent, Finished}
@@ -79,9 +79,9 @@ divisor-fits p cs f m m′ t u h e =
     let w : 2 ^ orderOf p ≤ 2 ^ 56 = pow-mono (p .order .admitted .1) in
     simp (e, a .2) (omega (arith, w, p .admitted .1, greatest-most _ (p .a) (p .b) (p .admitted .2) g), omega (arith, underway-narrow p k (u .running) .twos, p .order .admitted .1))
 
-pub finished : (p : AdmittedPair) (r : Run) (f : Fault) (m m′ : Meaning) → Underway p (vec-items (r .commands)) m → Advances m (Err f) m′ → r .pair ≡ p → r .twos ≡ twosOf m′ → r .gcd ≡ natAbs (aOf m′) * 2 ^ r .twos → Finished p r m′
+pub finished : (p : AdmittedPair) (r : Run) (f : Fault) (m m′ : Meaning) → Underway p (listed (r .commands)) m → Advances m (Err f) m′ → r .pair ≡ p → r .twos ≡ twosOf m′ → r .gcd ≡ natAbs (aOf m′) * 2 ^ r .twos → Finished p r m′
 finished p r f m m′ u h i t d =
-    let cs = vec-items (r .commands) in
+    let cs = listed (r .commands) in
     let a = over-there p cs f m m′ u h in
     let n = need-there p cs f m m′ u h in
     let twos = t ∙ ap twosOf (a .2) in

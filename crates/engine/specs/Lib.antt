@@ -1,4 +1,5 @@
 pub mod Meaning
 pub mod Words
 pub mod WordMeaning
+pub mod Listed
 pub mod Runs

@@ -6,6 +6,7 @@ use Rattle.engine.specs.Words.{stateOf}
 use Rattle.engine.specs.declared.word.Held.{Held}
 use Rattle.engine.specs.declared.word.WordEngine.{WordEngine}
 
+-- Idle, or the order and the state of its place on a run.
 abbrev heldMeaning : Option Held → Meaning
 heldMeaning None = idle
 heldMeaning (Some h) = held (h .order .value) (stateOf (h .registers))

@@ -1,3 +1,4 @@
+pub mod commands;
 pub mod engine;
 mod registers;
 pub mod run;

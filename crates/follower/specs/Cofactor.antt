@@ -25,6 +25,7 @@ pub record CofactorRows : Type 0 where
   pub e : ℤ
   pub f : ℤ
 
+-- The rows of a pair before any command.
 abbrev pub firstRows : AdmittedPair → CofactorRows
 firstRows p = record { n = orderOf p; x = p .a; y = p .b; c = pos 1; d = pos 0; e = pos 0; f = pos 1 }
 
@@ -68,12 +69,14 @@ inRange n z = leZ (negℤ (pos (2 ^ (n + 2)))) z && ltZ z (pos (2 ^ (n + 2)))
 abbrev pub rowFits : CofactorRows → Bool
 rowFits r = not (odd (r .e)) && not (odd (r .f)) && inRange (r .n) (half (r .e)) && inRange (r .n) (half (r .f))
 
+-- Whether a command is taken.
 abbrev pub rowsTake : CofactorRows → Command → Bool
 rowsTake r Both = not (odd (r .x)) && not (odd (r .y))
 rowsTake r Cross = rowFits (readied Cross r)
 rowsTake r Shift = rowFits (readied Shift r)
 rowsTake r (PlusMinus g x) = rowFits (readied (PlusMinus g x) r)
 
+-- The rows after a command that is taken.
 abbrev pub rowsTurn : CofactorRows → Command → CofactorRows
 rowsTurn r Both = halvedPair r
 rowsTurn r Cross = halvedRow (readied Cross r)

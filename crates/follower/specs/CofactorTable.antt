@@ -13,6 +13,7 @@ abbrev tableOf : Option Begun → Option CofactorRows
 tableOf None = None
 tableOf (Some b) = Some (rowsOf (b .entries))
 
+-- None before begin.
 abbrev pub cofactorTable : Cofactor → Option CofactorRows
 cofactorTable f = tableOf (f .begun)
 

@@ -8,6 +8,7 @@ use Rattle.std.specs.declared.option.Option.the-variants.{Some, None}
 use Rattle.follower.specs.Cofactor.{CofactorRows}
 use Rattle.follower.specs.declared.entries.Entries.{Entries}
 
+-- The rows that the entries are.
 abbrev pub rowsOf : Entries → CofactorRows
 rowsOf t = record { n = t .order .value; x = t .x; y = t .y; c = t .c; d = t .d; e = t .e; f = t .f }
 
@@ -19,6 +20,7 @@ PairWithin r = (natAbs (r .x) < 2 ^ 56) × (natAbs (r .y) < 2 ^ 56)
 abbrev pub RowsWithin : ℕ → CofactorRows → Type 0
 RowsWithin m r = (natAbs (r .c) ≤ 2 ^ 58) × (natAbs (r .d) ≤ 2 ^ 58) × (natAbs (r .e) ≤ m) × (natAbs (r .f) ≤ m)
 
+-- Both.
 pub record Within (m : ℕ) (r : CofactorRows) : Type 0 where
   pub pair : PairWithin r
   pub rows : RowsWithin m r

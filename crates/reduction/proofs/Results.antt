@@ -5,7 +5,6 @@ use native.Mathlib.Omega.{arith}
 use mathlib.Core.List.{List}
 use lib.IntN.{ℤ}
 use lib.ListN.{length}
-use Rattle.std.specs.Of.Vec.{vec-items}
 use Rattle.std.specs.declared.option.Option.{Option}
 use Rattle.std.specs.declared.option.Option.the-variants.{Some, None}
 use Rattle.rule.specs.Pairs.{orderOf, startOf}
@@ -16,6 +15,7 @@ use Rattle.rule.specs.declared.pair.AdmittedPair.{AdmittedPair}
 use Rattle.rule.proofs.Divisor.{divisor-greatest, greatest-most}
 use Rattle.rule.proofs.Whole.{run-narrow}
 use Rattle.rule.proofs.Fuel.{count-after}
+use Rattle.engine.specs.Listed.{listed}
 use Rattle.engine.specs.Meaning.{Meaning, aOf}
 use Rattle.engine.specs.Runs.{spent, ending, Finished}
 use Rattle.engine.specs.declared.run.Run.{Run}
@@ -117,7 +117,7 @@ right r a c t f q n h e g k =
     }
 
 -- ---- both followers, told the commands of a finished run
-pub told-finished : (p : AdmittedPair) (r : Run) (m : Meaning) (cs : List Command) (a : ℤ) (c : Option CofactorRows) (t : Option FractionRows) → Finished p r m → a ≡ aOf m → cs ≡ vec-items (r .commands)
+pub told-finished : (p : AdmittedPair) (r : Run) (m : Meaning) (cs : List Command) (a : ℤ) (c : Option CofactorRows) (t : Option FractionRows) → Finished p r m → a ≡ aOf m → cs ≡ listed (r .commands)
     → _≡_ {A = Option CofactorRows × Option FractionRows} (c, t) (tableAt {T = Option CofactorRows × Option FractionRows} (λ p. (cofactorFirst p, fractionFirst p)) (λ t c. (cofactorTurns (t .0) c, fractionTurns (t .1) c)) p (length cs))
     → Told r a c t
 told-finished p r m cs a c t f e slice both =

@@ -11,6 +11,7 @@ use Rattle.rule.specs.Divisor.{divisor}
 use Rattle.rule.specs.Pairs.{orderOf, startOf}
 use Rattle.rule.specs.Rule.{Need}
 use Rattle.rule.specs.Whole.{whole}
+use Rattle.rule.specs.declared.fault.Fault.{Fault}
 use Rattle.rule.specs.declared.fault.Layer.the-variants.{Engine}
 use Rattle.rule.specs.declared.fault.Reason.the-variants.{OrderAboveLargest}
 use Rattle.rule.specs.declared.pair.AdmittedPair.{AdmittedPair}
@@ -18,8 +19,6 @@ use Rattle.frame.specs.declared.reduction.Reduction.{Reduction}
 use Rattle.engine.specs.Meaning.{Meaning}
 use Rattle.engine.specs.Runs.{spent, ending, Finished}
 use Rattle.engine.specs.declared.run.Run.{Run}
-use Rattle.engine.specs.declared.run.RunError.{RunError}
-use Rattle.engine.specs.declared.run.RunError.the-variants.{Refused, NoMemory}
 use Rattle.follower.specs.Following.{tableAt}
 use Rattle.follower.specs.Cofactor.{CofactorRows, cofactorFirst, cofactorTurns}
 use Rattle.follower.specs.Fraction.{FractionRows, fractionFirst, fractionTurns, Reduced}
@@ -59,8 +58,7 @@ pub record Right (p : AdmittedPair) (r : Run) (n : Reduction) : Type 0 where
   pub bezout : Bezout (p .a) (p .b) (n .g) (n .u) (n .v)
   pub reduced : Reduced (p .a) (p .b) (n .numerator) (n .denominator)
 
--- The whole run and a right reduction, or nothing moved: the order is above the engine's largest, or there is no memory.
-abbrev pub Reduces : ℕ → Meaning → AdmittedPair → Result (Run × Reduction) RunError → Meaning → Type 0
+-- The whole run and a right reduction; or the order is above the engine's largest, and nothing moved.
+abbrev pub Reduces : ℕ → Meaning → AdmittedPair → Result (Run × Reduction) Fault → Meaning → Type 0
 Reduces largest m p (Ok x) m′ = (orderOf p ≤ largest) × Finished p (x .0) m′ × Right p (x .0) (x .1)
-Reduces largest m p (Err (Refused f)) m′ = (largest < orderOf p) × (f ≡ fault OrderAboveLargest Engine 0) × (m′ ≡ m)
-Reduces largest m p (Err NoMemory) m′ = m′ ≡ m
+Reduces largest m p (Err f) m′ = (largest < orderOf p) × (f ≡ fault OrderAboveLargest Engine 0) × (m′ ≡ m)

@@ -13,7 +13,6 @@ ghost use Rattle.follower.specs.FractionTable.{fractionTable};
 ghost use Rattle.reduction.specs.Reduces.{Told, Assembled, Right, Reduces};
 use engine::engine::Engine;
 use engine::run::Run;
-use engine::run::RunError;
 use engine::run::run_to_end;
 use follower::cofactor::Cofactor;
 use follower::cofactor::CofactorFollower;
@@ -26,8 +25,8 @@ use follower::pair::Pair;
 use follower::pair::PairFollower;
 use frame::reduction::Reduction;
 use rule::command::Command;
+use rule::fault::Fault;
 use rule::pair::AdmittedPair;
-use std::alloc::Global;
 
 // Begins a follower with a pair and tells it the commands of the pair's run, which it takes one and all.
 fn follow_run<F: Follower>(follower: &mut F, pair: AdmittedPair, commands: &[Command])
@@ -77,14 +76,10 @@ fn read_out(run: &Run, a: i64, cofactor: &Cofactor, fraction: &Fraction) -> Redu
 }
 
 // The reduction of a pair on any engine, with the run that it took.
-pub fn reduce<E: Engine>(
-    heap: Global,
-    engine: &mut E,
-    pair: AdmittedPair,
-) -> Result<(Run, Reduction), RunError>
+pub fn reduce<E: Engine>(engine: &mut E, pair: AdmittedPair) -> Result<(Run, Reduction), Fault>
     ensures { λ r. ⌜ Reduces largest (meaning (now (engine .entry))) pair r (meaning (now (engine .exit))) ⌝ }
 {
-    let run = run_to_end(heap, engine, pair)?;
+    let run = run_to_end(engine, pair)?;
     let mut followers = Pair {
         first: Cofactor::new(),
         second: Fraction::new(),

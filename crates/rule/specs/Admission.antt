@@ -25,6 +25,7 @@ width n = n / 8 + 1
 abbrev pub orderObjection : ℤ → Option Fault
 orderObjection n = cond (leZ (pos 1) n && leZ n (pos 56)) None (Some (fault OrderOutOfRange Frame 3))
 
+-- The order n where nothing stands against it, and else what does.
 abbrev pub AdmitsOrder : ℤ → Result Order Fault → Type 0
 AdmitsOrder n (Ok o) = (pos (o .value) ≡ n) × (orderObjection n ≡ None)
 AdmitsOrder n (Err f) = orderObjection n ≡ Some f
@@ -36,6 +37,7 @@ pairObjection n a b =
     (cond (leb (2 ^ n) (natAbs b)) (Some (fault OperandTooLarge Frame (5 + width n)))
     (cond (isZero b) (Some (fault DenominatorZero Frame (5 + width n))) None))
 
+-- The pair where nothing stands against it, and else what does.
 abbrev pub AdmitsPair : Order → ℤ → ℤ → Result AdmittedPair Fault → Type 0
 AdmitsPair o a b (Ok p) = (p .order ≡ o) × (p .a ≡ a) × (p .b ≡ b) × (pairObjection (o .value) a b ≡ None)
 AdmitsPair o a b (Err f) = pairObjection (o .value) a b ≡ Some f

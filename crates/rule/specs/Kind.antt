@@ -14,11 +14,12 @@ pub record Kind (K : Type 0) : Type 0 where
   pub plus : K → K → K
   pub minus : K → K → K
 
--- Plus where a fourfold sum is met, else minus.
+-- The sign by whether 4 divides the sum: plus where it does.
 abbrev pub signBy : Bool → Sign
 signBy true = Plus
 signBy false = Minus
 
+-- x plus or minus y, by the sign.
 abbrev pub summed : {K : Type 0} → Kind K → Sign → K → K → K
 summed k Plus x y = k .plus x y
 summed k Minus x y = k .minus x y

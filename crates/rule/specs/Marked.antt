@@ -1,4 +1,4 @@
--- Eleven pairs with what their reduction gives, and what it says that the rule does so.
+-- Eleven pairs with what their reduction gives, and what it means that the rule does so. (negsuc n is -(n + 1).)
 use Prim.Native.Nat.{ℕ}
 use mathlib.Core.Path.{_≡_}
 use mathlib.Core.Bool.{true, false}
@@ -28,7 +28,7 @@ pub record Line : Type 0 where
 abbrev line : ℕ → ℤ → ℤ → List Command → ℕ → ℤ → ℤ → ℤ → ℤ → Line
 line n a b cs g u v p q = record { order = n; a = a; b = b; commands = cs; g = g; u = u; v = v; numerator = p; denominator = q }
 
--- the plus-minus commands in their published letters
+-- The plus-minus commands in their published letters.
 abbrev P : Command
 P = PlusMinus Plus false
 

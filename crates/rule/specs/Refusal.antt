@@ -22,6 +22,6 @@ number RunOver = 24
 number OrderAboveLargest = 25
 number CommandNotTaken = 26
 
--- the fault of a reason, by a layer, at a place
+-- The fault of a reason, found by a layer, at a place.
 abbrev pub fault : Reason → Layer → ℕ → Fault
 fault r l p = record { reason = r; layer = l; place = p }

@@ -18,6 +18,7 @@ pub record State (K : Type 0) : Type 0 where
   pub twos : ℕ
   pub count : ℕ
 
+-- Where the run of x and y starts.
 abbrev pub start : {K : Type 0} → K → K → State K
 start x y = record { a = x; b = y; δ = pos 0; twos = 0; count = 0 }
 

@@ -1,4 +1,4 @@
--- Whole numbers as operands of the rule, and what it says that each of its halvings is exact.
+-- Whole numbers as operands of the rule, and what it means that its halvings are exact.
 use Prim.Native.Nat.{ℕ, _%_, _^_, _<_}
 use mathlib.Core.Path.{_≡_}
 use mathlib.Core.Bool.{Bool}
@@ -24,6 +24,7 @@ fourfold z = eqb (natAbs z % 4) 0
 unfoldable pub half : ℤ → ℤ
 half z = shrZ z 2
 
+-- Whole numbers as a kind.
 abbrev pub whole : Kind ℤ
 whole = record { isZero = isZero; odd = odd; fourfold = fourfold; half = half; plus = _+ℤ_; minus = _-ℤ_ }
 

@@ -7,21 +7,18 @@ use reduction::reduce::reduce;
 use rule::fault::FaultDebug;
 use rule::order::Order;
 use rule::pair::AdmittedPair;
-use std::alloc::Global;
 use std::test::*;
 
 // The reduction of a pair on a word engine.
-fn reduced(heap: Global, order: i64, a: i64, b: i64) -> Result<Reduction, Fail> {
+fn reduced(order: i64, a: i64, b: i64) -> Result<Reduction, Fail> {
     let pair = AdmittedPair::new(Order::new(order)?, a, b)?;
-    match reduce(heap, &mut WordEngine::new(), pair) {
-        Ok((_, reduction)) => Ok(reduction),
-        Err(_) => Err(Fail::new("no reduction")),
-    }
+    let (_, reduction) = reduce(&mut WordEngine::new(), pair)?;
+    Ok(reduction)
 }
 
 // Everything that a reduction promises, in wide numbers and by Euclid's division algorithm.
-fn check_reduction(heap: Global, order: i64, a: i64, b: i64) -> Result<(), Fail> {
-    let r = reduced(heap, order, a, b)?;
+fn check_reduction(order: i64, a: i64, b: i64) -> Result<(), Fail> {
+    let r = reduced(order, a, b)?;
     check_eq(r.g, euclid(a, b))?;
     let (wide_a, wide_b) = (i128::from(a), i128::from(b));
     let (u, v) = (i128::from(r.u), i128::from(r.v));
@@ -40,15 +37,15 @@ fn check_reduction(heap: Global, order: i64, a: i64, b: i64) -> Result<(), Fail>
 }
 
 // The same of both operands in either place and with either sign.
-fn check_all_ways(heap: Global, order: i64, a: i64, b: i64) -> Result<(), Fail> {
+fn check_all_ways(order: i64, a: i64, b: i64) -> Result<(), Fail> {
     let minus_a = a.wrapping_neg();
     let minus_b = b.wrapping_neg();
     for (x, y) in [(a, b), (a, minus_b), (minus_a, b), (minus_a, minus_b)] {
         if y != 0 {
-            check_reduction(heap, order, x, y)?;
+            check_reduction(order, x, y)?;
         }
         if x != 0 {
-            check_reduction(heap, order, y, x)?;
+            check_reduction(order, y, x)?;
         }
     }
     Ok(())
@@ -56,10 +53,10 @@ fn check_all_ways(heap: Global, order: i64, a: i64, b: i64) -> Result<(), Fail> 
 
 // Every pair of order 5, and so every parity, sign, zero and equality.
 #[test]
-fn every_pair_of_order_five(rt: LibcRuntime) -> Result<(), Fail> {
+fn every_pair_of_order_five() -> Result<(), Fail> {
     for a in 0i64..32 {
         for b in 0i64..32 {
-            check_all_ways(rt.alloc(), 5, a, b)?;
+            check_all_ways(5, a, b)?;
         }
     }
     Ok(())
@@ -67,13 +64,13 @@ fn every_pair_of_order_five(rt: LibcRuntime) -> Result<(), Fail> {
 
 // Operands at the edges of every order: 0, 1, and next to a power of two or at it.
 #[test]
-fn edges_of_every_order(rt: LibcRuntime) -> Result<(), Fail> {
+fn edges_of_every_order() -> Result<(), Fail> {
     for n in 1u8..=56 {
         let top = 1i64 << n;
         let most = top.wrapping_sub(1);
         for a in [0, 1, most / 2, top / 2, most.wrapping_sub(1), most] {
             for b in [1, top / 2, most.wrapping_sub(1), most] {
-                check_all_ways(rt.alloc(), i64::from(n), a, b)?;
+                check_all_ways(i64::from(n), a, b)?;
             }
         }
     }
@@ -81,16 +78,16 @@ fn edges_of_every_order(rt: LibcRuntime) -> Result<(), Fail> {
 }
 
 #[test]
-fn published_example(rt: LibcRuntime) -> Result<(), Fail> {
-    check_all_ways(rt.alloc(), 21, 1759291, 1349639)
+fn published_example() -> Result<(), Fail> {
+    check_all_ways(21, 1759291, 1349639)
 }
 
 // Powers of two against each other and against themselves.
 #[test]
-fn powers_of_two(rt: LibcRuntime) -> Result<(), Fail> {
+fn powers_of_two() -> Result<(), Fail> {
     for i in 0u8..56 {
         for j in 0u8..=i {
-            check_all_ways(rt.alloc(), 56, 1i64 << i, 1i64 << j)?;
+            check_all_ways(56, 1i64 << i, 1i64 << j)?;
         }
     }
     Ok(())
@@ -98,7 +95,7 @@ fn powers_of_two(rt: LibcRuntime) -> Result<(), Fail> {
 
 // Forty pairs of each order from a fixed sequence, with a common factor put into every second one.
 #[test]
-fn scattered_pairs_of_every_order(rt: LibcRuntime) -> Result<(), Fail> {
+fn scattered_pairs_of_every_order() -> Result<(), Fail> {
     let mut seed: u64 = 0x2545_f491_4f6c_dd1d;
     for n in 1u8..=56 {
         for k in 0u8..40 {
@@ -138,9 +135,9 @@ const MARKED: [(i64, i64, i64, u16, u64, i64, i64, i64, i64); 11] = [
 ];
 
 #[test]
-fn marked_pairs(rt: LibcRuntime) -> Result<(), Fail> {
+fn marked_pairs() -> Result<(), Fail> {
     for (order, a, b, count, g, u, v, numerator, denominator) in MARKED {
-        let r = reduced(rt.alloc(), order, a, b)?;
+        let r = reduced(order, a, b)?;
         check_eq(r.count, count)?;
         check_eq(r.g, g)?;
         check_eq((r.u, r.v), (u, v))?;

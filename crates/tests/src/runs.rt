@@ -1,25 +1,17 @@
 // How many commands whole runs take.
-use crate::euclid::euclid;
-use engine::run::Run;
 use engine::run::run_to_end;
 use engine::word::WordAsEngine;
 use engine::word::WordEngine;
 use rule::fault::FaultDebug;
 use rule::order::Order;
 use rule::pair::AdmittedPair;
-use std::alloc::Global;
 use std::test::*;
 
-// The run of a pair, once its divisor is found to be Euclid's.
-fn run(heap: Global, order: i64, a: i64, b: i64) -> Result<Run, Fail> {
+// How many commands the run of a pair takes on a word engine.
+fn count(order: i64, a: i64, b: i64) -> Result<usize, Fail> {
     let pair = AdmittedPair::new(Order::new(order)?, a, b)?;
-    match run_to_end(heap, &mut WordEngine::new(), pair) {
-        Ok(run) => {
-            check_eq(run.gcd, euclid(a, b))?;
-            Ok(run)
-        }
-        Err(_) => Err(Fail::new("no run")),
-    }
+    let run = run_to_end(&mut WordEngine::new(), pair)?;
+    Ok(run.commands.len())
 }
 
 // The least order that both operands fit.
@@ -50,26 +42,24 @@ const WORST: [(i64, i64, usize); 16] = [
 
 // The published number of cells ends where a is final; two commands more bring b to 0.
 #[test]
-fn worst_cases_take_two_commands_more_than_their_cells(rt: LibcRuntime) -> Result<(), Fail> {
+fn worst_cases_take_two_commands_more_than_their_cells() -> Result<(), Fail> {
     for (a, b, cells) in WORST {
-        let run = run(rt.alloc(), least_order(a, b), a, b)?;
-        check_eq(run.commands.len(), cells.saturating_add(2))?;
+        check_eq(count(least_order(a, b), a, b)?, cells.saturating_add(2))?;
     }
     Ok(())
 }
 
 // 3 · 2^(n-2) ± 1, the published pairs that need many cells at every order n from 3 up.
 #[test]
-fn near_three_quarters_of_every_order(rt: LibcRuntime) -> Result<(), Fail> {
+fn near_three_quarters_of_every_order() -> Result<(), Fail> {
     for n in 3u8..=56 {
         let z = 3i64 << (n - 2);
-        let (a, b, count) = if n % 2 == 0 {
+        let (a, b, commands) = if n % 2 == 0 {
             (z.wrapping_add(1), z.wrapping_sub(1), 3 * usize::from(n) - 3)
         } else {
             (z.wrapping_sub(1), z.wrapping_add(1), 3 * usize::from(n) - 2)
         };
-        let run = run(rt.alloc(), i64::from(n), a, b)?;
-        check_eq(run.commands.len(), count)?;
+        check_eq(count(i64::from(n), a, b)?, commands)?;
     }
     Ok(())
 }

@@ -1,7 +1,6 @@
 // Traces one pair: `trace ORDER A B`, or `trace FRAME` with a frame in hexadecimal digits, prints its run and its reduction.
 mod report;
 
-use engine::run::RunError;
 use engine::word::WordAsEngine;
 use engine::word::WordEngine;
 use frame::hex;
@@ -42,22 +41,17 @@ fn admitted(order: i64, a: i64, b: i64) -> Result<AdmittedPair, Fault> {
     AdmittedPair::new(Order::new(order)?, a, b)
 }
 
-// Reduces the pair on a word engine, and prints the reduction, or the refusal of what is no pair.
+// The reduction of the pair on a word engine.
+fn reduced(pair: Result<AdmittedPair, Fault>) -> Result<Report, Fault> {
+    let (run, reduction) = reduce(&mut WordEngine::new(), pair?)?;
+    Ok(Report { run, reduction })
+}
+
+// Prints the reduction of a pair, or the refusal of what is none.
 fn trace(rt: &LibcRuntime, pair: Result<AdmittedPair, Fault>) -> Result<(), AnyError> {
-    let pair = match pair {
-        Ok(pair) => pair,
-        Err(fault) => {
-            println!(rt, "{fault}")?;
-            return Ok(());
-        }
-    };
-    match reduce(rt.alloc(), &mut WordEngine::new(), pair) {
-        Ok((run, reduction)) => {
-            let report = Report { run, reduction };
-            print!(rt, "{report}")?;
-        }
-        Err(RunError::Refused(fault)) => println!(rt, "{fault}")?,
-        Err(RunError::NoMemory) => return Err("no memory for the commands".into()),
+    match reduced(pair) {
+        Ok(report) => print!(rt, "{report}")?,
+        Err(fault) => println!(rt, "{fault}")?,
     }
     Ok(())
 }

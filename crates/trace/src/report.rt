@@ -27,7 +27,7 @@ pub impl fmt::Display for Report as ReportDisplay {
         } = self.reduction;
         writeln!(f, "pair       {a}, {b} of order {order}")?;
         write!(f, "commands  ")?;
-        for command in self.run.commands.iter() {
+        for command in self.run.commands.as_slice() {
             write!(f, " {command}")?;
         }
         writeln!(f, "")?;

@@ -11,4 +11,4 @@ pub read-out-reduction-requires : need.read-out-reduction-requires
 read-out-reduction-requires g c κs =
     let f : SFits w64 (c .a .result) = search needs in
     let t = c .follow-run .last .follower in
-    simp toZ-ofZ (told-finished (c .args .pair) (c .in-Continue-run .run′) (g .E·Engine .meaning (c .run-to-end .last .engine)) (c .as-slice .result .now) (c .a .result) (cofactorTable (t .first)) (fractionTable (t .second)) (c .in-Continue-run .ensures tt .1) (c .a .ensures) (c .as-slice .ensures .value) (c .follow-run .ensures))
+    simp toZ-ofZ (told-finished (c .args .pair) (c .in-Continue-run .run′) (g .E·Engine .meaning (c .run-to-end .last .engine)) (c .as-slice .result .now) (c .a .result) (cofactorTable (t .first)) (fractionTable (t .second)) (c .in-Continue-run .ensures tt .1) (c .a .ensures) (c .as-slice .ensures) (c .follow-run .ensures))

@@ -108,12 +108,7 @@ fn scattered_pairs_of_every_order() -> Result<(), Fail> {
             let common = if k % 2 == 0 { 1 } else { 30 };
             let a = a / common * common;
             let b = b / common * common;
-            check_all_ways(
-                rt.alloc(),
-                i64::from(n),
-                i64::try_from(a)?,
-                i64::try_from(b)?,
-            )?;
+            check_all_ways(i64::from(n), i64::try_from(a)?, i64::try_from(b)?)?;
         }
     }
     Ok(())

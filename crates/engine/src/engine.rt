@@ -13,12 +13,12 @@ pub trait Engine {
     // What the engine holds.
     ghost meaning: { Self → Meaning };
 
-    // `LARGEST`, for the contracts.
+    // The largest order, for the contracts, which cannot name the constant.
     ghost largest: { ℕ };
 
     law roomy: { 1 ≤ largest };
 
-    // `LARGEST`, for code that knows the engine only by its contracts.
+    // The largest order, for code that knows the engine only by its contracts.
     fn largest_order() -> u16
         ensures { λ r. ⌜ r ≡ largest ⌝ };
 

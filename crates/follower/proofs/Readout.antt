@@ -162,7 +162,7 @@ bezout-there p s r z h g =
     let f = divides-bare (natAbs (s .a)) t (r .y) (p .b) o (h .ground .of-b) (g .divides-y) in
     record {
       sum = subst₂ (λ i j. uOf (s .a) r *ℤ i +ℤ vOf (s .a) r *ℤ j ≡ pos (divisor s)) (h .ground .of-a) (h .ground .of-b) (scaled-sum (uOf (s .a) r) (vOf (s .a) r) (r .x) (r .y) (pos t) (pos (natAbs (s .a))) (b .sum));
-      small-u = λ _. omega (arith, b .small-u, size-y);
+      small-u = omega (arith, b .small-u, size-y);
       small-v = λ n. omega (arith, size-x, v-small (natAbs (s .a)) (r .x) (r .y) _ _ (uOf (s .a) r) (vOf (s .a) r) e f (not-fresh s r z (h .ground .some-y) (h .phase)) (some-x n) (h .ground .some-y) (b .small-u) (b .sum));
     }
   where

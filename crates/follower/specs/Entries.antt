@@ -12,7 +12,7 @@ use Rattle.follower.specs.declared.entries.Entries.{Entries}
 abbrev pub rowsOf : Entries → CofactorRows
 rowsOf t = record { n = t .order .value; x = t .x; y = t .y; c = t .c; d = t .d; e = t .e; f = t .f }
 
--- The pair fits an order.
+-- x and y are below 2^56 in size.
 abbrev pub PairWithin : CofactorRows → Type 0
 PairWithin r = (natAbs (r .x) < 2 ^ 56) × (natAbs (r .y) < 2 ^ 56)
 

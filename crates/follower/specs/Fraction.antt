@@ -102,7 +102,7 @@ pub record FractionRowsRelated (p : AdmittedPair) (t : FractionRows) (s : State 
   pub first : RowRelated (modulus (orderOf p)) (t .first) s (p .a)
   pub second : RowRelated (modulus (orderOf p)) (t .second) s (p .b)
 
--- Modulo 2^(n+2), c·a + d·b and e·a + f·b are a′ and b′, the pair without the twos counted so far.
+-- The same of a follower, which holds no table before it is begun.
 abbrev pub FractionRelated : AdmittedPair → Option FractionRows → State ℤ → Type 0
 FractionRelated p None s = ⊥
 FractionRelated p (Some t) s = FractionRowsRelated p t s

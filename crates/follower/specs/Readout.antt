@@ -16,7 +16,7 @@ use Rattle.follower.specs.Following.{tableAt}
 use Rattle.follower.specs.Cofactor.{CofactorRows, cofactorFirst, cofactorTurns}
 use Rattle.follower.specs.declared.entries.Cofactors.{Cofactors}
 
--- Whether two numbers are both negative or both not.
+-- Whether two marks are the same.
 abbrev pub alike : Bool → Bool → Bool
 alike true q = q
 alike false q = not q
@@ -45,10 +45,10 @@ uOf a r = moved (isFar a r) (isLess a r) (cOf a r) (r .y)
 abbrev pub vOf : ℤ → CofactorRows → ℤ
 vOf a r = moved (isFar a r) (isLess a r) (negatedBy (isNegative a) (r .d)) (negℤ (r .x))
 
--- u and v are cofactors of g for a and b, and small where a is not 0.
+-- u and v are cofactors of g for a and b. u is small, and so is v where a is not 0.
 pub record Bezout (a b : ℤ) (g : ℕ) (u v : ℤ) : Type 0 where
   pub sum : u *ℤ a +ℤ v *ℤ b ≡ pos g
-  pub small-u : (a ≡ pos 0 → ⊥) → 2 * natAbs u ≤ natAbs b
+  pub small-u : 2 * natAbs u ≤ natAbs b
   pub small-v : (a ≡ pos 0 → ⊥) → 2 * natAbs v ≤ natAbs a + 1
 
 -- The cofactors of a follower that has been told a run which ended with a; a follower that is not begun has none.

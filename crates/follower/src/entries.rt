@@ -229,7 +229,7 @@ impl Entries {
         }
     }
 
-    // Whether c, with the sign of a, is far from 0, and on which side of it.
+    // Whether c, with the sign of a, is far from 0; and whether it then has the sign of y.
     fn is_far(self, a: i64) -> bool
         requires { ⌜ Within (2 ^ 58) (rowsOf self) ⌝ }
         ensures { λ r. ⌜ r ≡ isFar a (rowsOf self) ⌝ }

@@ -11,7 +11,7 @@ pub fn frames_are_unique()
     ensures { λ _. ⌜ Frame-unique ⌝ }
 {}
 
-// Every number of a frame fits its bytes.
+// A number below 2^n in size is read back from its k bytes.
 pub fn numbers_are_read_back()
     ensures { λ _. ⌜ Number-read-back ⌝ }
 {}

@@ -34,6 +34,9 @@ use Rattle.frame.specs.Fits.{Fit}
 use Rattle.frame.specs.declared.reduction.Reduction.{Reduction}
 use Rattle.reduction.specs.Reduces.{Told, Assembled, Right}
 
+some-same : {X : Type 0} {x y : X} → _≡_ {A = Option X} (Some x) (Some y) → x ≡ y
+some-same e = cc
+
 -- ---- the cofactors
 cofactors-are : (r : Run) (a : ℤ) (c : Option CofactorRows) (t : Option FractionRows) → Told r a c t → cofactorsAt a c ≡ Some (record { u = uOf (ending (r .pair) r .a) (rowsAt (r .pair) (spent r)); v = vOf (ending (r .pair) r .a) (rowsAt (r .pair) (spent r)) })
 cofactors-are r a c t h = ap₂ cofactorsAt (h .ends) (h .cofactors ∙ cofactor-table (r .pair) (spent r))
@@ -50,9 +53,6 @@ cofactors-right r a c t f h e =
     let fit = cofactors-fit p (spent r) (h .need) in
     subst (CofactorsRight r) same
     (record { bezout = subst (λ (g : ℕ). Bezout (p .a) (p .b) g (uOf (ending p r .a) (rowsAt p (spent r))) (vOf (ending p r .a) (rowsAt p (spent r)))) (sym (h .g)) (bezout p (spent r) (h .need)); fit-u = fit .0; fit-v = fit .1 })
-  where
-    some-same : {x y : Cofactors} → _≡_ {A = Option Cofactors} (Some x) (Some y) → x ≡ y
-    some-same e = cc
 
 -- ---- the fraction
 pub record RatioRight (p : AdmittedPair) (f : Ratio) : Type 0 where
@@ -63,9 +63,6 @@ pub record RatioRight (p : AdmittedPair) (f : Ratio) : Type 0 where
 ratio-by : (p : AdmittedPair) (t : Option FractionRows) (f : Ratio) → TableReduced p t → readOut t ≡ Some f → RatioRight p f
 ratio-by p None f h e = absurd h
 ratio-by p (Some t) f h e = subst (RatioRight p) (some-same e) (record { reduced = h .reduced; fit-numerator = h .numerator; fit-denominator = h .denominator })
-  where
-    some-same : {x y : Ratio} → _≡_ {A = Option Ratio} (Some x) (Some y) → x ≡ y
-    some-same e = cc
 
 pub ratio-right : (r : Run) (a : ℤ) (c : Option CofactorRows) (t : Option FractionRows) (f : Ratio) → Told r a c t → readOut t ≡ Some f → RatioRight (r .pair) f
 ratio-right r a c t f h e = ratio-by (r .pair) t f (subst (TableReduced (r .pair)) (sym (h .ratio)) (fraction-reduced (r .pair) (spent r) (h .need))) e

@@ -1,23 +1,20 @@
 -- What the reduction of a pair gives.
-use Prim.Native.Nat.{ℕ, _<_, _≤_}
+use Prim.Native.Nat.{ℕ}
 use mathlib.Core.Path.{_≡_}
 use lib.IntN.{ℤ}
 use Rattle.std.specs.declared.option.Option.{Option}
 use Rattle.std.specs.declared.option.Option.the-variants.{Some}
 use Rattle.std.specs.declared.result.Result.{Result}
 use Rattle.std.specs.declared.result.Result.the-variants.{Ok, Err}
-use Rattle.rule.specs.Refusal.{fault}
 use Rattle.rule.specs.Divisor.{divisor}
-use Rattle.rule.specs.Pairs.{orderOf, startOf}
+use Rattle.rule.specs.Pairs.{startOf}
 use Rattle.rule.specs.Rule.{Need}
 use Rattle.rule.specs.Whole.{whole}
 use Rattle.rule.specs.declared.fault.Fault.{Fault}
-use Rattle.rule.specs.declared.fault.Layer.the-variants.{Engine}
-use Rattle.rule.specs.declared.fault.Reason.the-variants.{OrderAboveLargest}
 use Rattle.rule.specs.declared.pair.AdmittedPair.{AdmittedPair}
 use Rattle.frame.specs.declared.reduction.Reduction.{Reduction}
 use Rattle.engine.specs.Meaning.{Meaning}
-use Rattle.engine.specs.Runs.{spent, ending, Finished}
+use Rattle.engine.specs.Runs.{spent, ending, Runs}
 use Rattle.engine.specs.declared.run.Run.{Run}
 use Rattle.follower.specs.Following.{tableAt}
 use Rattle.follower.specs.Cofactor.{CofactorRows, cofactorFirst, cofactorTurns}
@@ -58,7 +55,7 @@ pub record Right (p : AdmittedPair) (r : Run) (n : Reduction) : Type 0 where
   pub bezout : Bezout (p .a) (p .b) (n .g) (n .u) (n .v)
   pub reduced : Reduced (p .a) (p .b) (n .numerator) (n .denominator)
 
--- The whole run and a right reduction; or the order is above the engine's largest, and nothing moved.
+-- What a whole run of the engine gives, and with it a right reduction.
 abbrev pub Reduces : ℕ → Meaning → AdmittedPair → Result (Run × Reduction) Fault → Meaning → Type 0
-Reduces largest m p (Ok x) m′ = (orderOf p ≤ largest) × Finished p (x .0) m′ × Right p (x .0) (x .1)
-Reduces largest m p (Err f) m′ = (largest < orderOf p) × (f ≡ fault OrderAboveLargest Engine 0) × (m′ ≡ m)
+Reduces largest m p (Ok x) m′ = Runs largest m p (Ok (x .0)) m′ × Right p (x .0) (x .1)
+Reduces largest m p (Err f) m′ = Runs largest m p (Err f) m′

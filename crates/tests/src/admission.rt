@@ -5,6 +5,7 @@ use rule::fault::FaultDisplay;
 use rule::fault::Layer;
 use rule::fault::LayerDebug;
 use rule::fault::LayerPartialEq;
+use rule::fault::Reason;
 use rule::order::Order;
 use rule::pair::AdmittedPair;
 use std::test::*;
@@ -65,13 +66,105 @@ fn operands_below_two_to_the_order() -> Result<(), Fail> {
     Ok(())
 }
 
+// Every reason by its number and in words, each as some layer would find it.
+const REFUSALS: [(Reason, Layer, usize, &str); 15] = [
+    (
+        Reason::FrameTooShort,
+        Layer::Frame,
+        0,
+        "refused 1 by the frame at place 0: the frame has fewer than 5 bytes",
+    ),
+    (
+        Reason::LengthDiffers,
+        Layer::Frame,
+        0,
+        "refused 2 by the frame at place 0: the length does not match the bytes that follow it",
+    ),
+    (
+        Reason::WrongVersion,
+        Layer::Frame,
+        2,
+        "refused 3 by the frame at place 2: the version is not 1",
+    ),
+    (
+        Reason::OrderOutOfRange,
+        Layer::Frame,
+        3,
+        "refused 4 by the frame at place 3: the order is not from 1 to 56",
+    ),
+    (
+        Reason::OperandsDoNotFill,
+        Layer::Frame,
+        5,
+        "refused 5 by the frame at place 5: the operands do not fill their bytes exactly",
+    ),
+    (
+        Reason::OperandTooLarge,
+        Layer::Frame,
+        6,
+        "refused 6 by the frame at place 6: an operand is too large for the order",
+    ),
+    (
+        Reason::DenominatorZero,
+        Layer::Frame,
+        6,
+        "refused 7 by the frame at place 6: b is 0",
+    ),
+    (
+        Reason::BudgetOutOfRange,
+        Layer::Unit,
+        0,
+        "refused 8 by the unit: the stint or the budget is out of range",
+    ),
+    (
+        Reason::BufferTooShort,
+        Layer::Unit,
+        0,
+        "refused 9 by the unit: the buffer is shorter than the frame",
+    ),
+    (
+        Reason::PairHeld,
+        Layer::Unit,
+        0,
+        "refused 21 by the unit: a pair is held already",
+    ),
+    (
+        Reason::NothingHeld,
+        Layer::Engine,
+        0,
+        "refused 22 by the engine: no pair is held",
+    ),
+    (
+        Reason::RunNotOver,
+        Layer::Unit,
+        0,
+        "refused 23 by the unit: the run is not over",
+    ),
+    (
+        Reason::RunOver,
+        Layer::Engine,
+        0,
+        "refused 24 by the engine: the run is over",
+    ),
+    (
+        Reason::OrderAboveLargest,
+        Layer::Engine,
+        0,
+        "refused 25 by the engine: the order is above the largest that the engine takes",
+    ),
+    (
+        Reason::CommandNotTaken,
+        Layer::Follower,
+        7,
+        "refused 26 by the follower at place 7: a follower does not take the command",
+    ),
+];
+
 #[test]
-fn a_refusal_in_words(rt: LibcRuntime) -> Result<(), Fail> {
-    match admitted(3, 8, 1) {
-        Ok(_) => Err(Fail::new("admitted")),
-        Err(fault) => check_eq(
-            format!(rt.alloc(), "{fault}")?.as_str(),
-            "refused 6 by the frame at place 5: an operand is too large for the order",
-        ),
+fn refusals_in_words(rt: LibcRuntime) -> Result<(), Fail> {
+    for (reason, layer, place, words) in REFUSALS {
+        let fault = Fault::new(reason, layer, place);
+        check_eq(format!(rt.alloc(), "{fault}")?.as_str(), words)?;
     }
+    Ok(())
 }

@@ -1,4 +1,6 @@
 // A unit at a desk: performs the calls of the script on standard input, and prints what each answered.
+#![tactic(auto)]
+
 use anyhow::anyhow;
 use engine::word::WordEngine;
 use script::parse::{Script, parse};

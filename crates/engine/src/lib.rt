@@ -1,3 +1,5 @@
+#![tactic(auto)]
+
 pub mod commands;
 pub mod engine;
 mod registers;

@@ -1,3 +1,5 @@
+#![tactic(auto)]
+
 pub mod cofactor;
 mod entries;
 pub mod follower;

@@ -1,3 +1,5 @@
+#![tactic(auto)]
+
 pub mod cut;
 mod head;
 pub mod hex;

@@ -1,4 +1,6 @@
 // Reduces frames: for each frame on standard input it prints the frame of the result in hexadecimal digits, or `refused` and the number.
+#![tactic(auto)]
+
 use engine::word::WordEngine;
 use frame::cut::Frames;
 use frame::hex;

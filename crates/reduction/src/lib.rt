@@ -1,2 +1,4 @@
+#![tactic(auto)]
+
 pub mod readout;
 pub mod reduce;

@@ -1,5 +1,5 @@
 -- Which orders and pairs are admitted.
-use Rattle.std.specs.Prelude.{◌≡◌, ℕ, ◌≤◌, ℤ, pos, ◌≢◌}
+use Rattle.std.specs.Prelude.{ℕ, ◌≤◌, ℤ, pos, ◌≢◌}
 use Rattle.rule.specs.Whole.{Below}
 
 abbrev pub OrderAdmitted : ℕ → Type 0

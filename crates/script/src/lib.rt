@@ -1,3 +1,5 @@
+#![tactic(auto)]
+
 pub mod argument;
 pub mod fault;
 pub mod line;

@@ -1,3 +1,5 @@
+#![tactic(auto)]
+
 pub mod call;
 pub mod perform;
 pub mod reduce;

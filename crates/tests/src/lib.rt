@@ -1,4 +1,6 @@
 // Tests of every layer on many pairs, against a Euclid of their own.
+#![tactic(auto)]
+
 #[cfg(test)]
 mod admission;
 #[cfg(test)]

@@ -1,4 +1,6 @@
 // Traces one pair: `trace ORDER A B`, or `trace FRAME` with a frame in hexadecimal digits, prints its run and its reduction.
+#![tactic(auto)]
+
 mod report;
 
 use anyhow::anyhow;

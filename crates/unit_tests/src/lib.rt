@@ -1,4 +1,6 @@
 // Tests of the unit and of what stands on it: every call in every state, every way of cutting a run, every order.
+#![tactic(auto)]
+
 #[cfg(test)]
 mod buffers;
 pub mod capped;

@@ -42,7 +42,7 @@ pub fn read_out<E: Engine>(
     engine: &E,
     followers: &Followers,
 ) -> Option<Reduction>
-    ensures { (k : ℕ) → Along first_tables next_tables pair k (meaning engine.now) (tables_of followers.now) → ReadsOut pair k result }
+    ensures { (k : ℕ) → Along first_tables next_tables pair k (E.meaning engine.now) (tables_of followers.now) → ReadsOut pair k result }
 {
     if !engine.is_over() {
         return None;

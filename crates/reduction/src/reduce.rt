@@ -25,7 +25,7 @@ use rule::pair::AdmittedPair;
 fn follow_run<F: Follower>(follower: &mut F, pair: AdmittedPair, commands: &[Command])
     requires run { commands.now ≡ told whole (length commands.now) (start_of pair) }
     requires running { Running whole (start_of pair) (length commands.now) }
-    ensures { table follower.new ≡ table_at first turns pair (length commands.now) }
+    ensures { F.table follower.new ≡ table_at F.first F.turns pair (length commands.now) }
 {
     follower.begin(pair);
     for command in commands {
@@ -70,7 +70,7 @@ fn read_out(run: &Run, a: i64, cofactor: &Cofactor, fraction: &Fraction) -> Redu
 
 // The reduction of a pair on any engine, with the run that it took.
 pub fn reduce<E: Engine>(engine: &mut E, pair: AdmittedPair) -> Result<(Run, Reduction), Fault>
-    ensures { Reduces largest (meaning engine.old) pair result (meaning engine.new) }
+    ensures { Reduces E.largest (E.meaning engine.old) pair result (E.meaning engine.new) }
 {
     let run = run_to_end(engine, pair)?;
     let mut followers = Pair {

@@ -20,8 +20,8 @@ fn divisor(a: i64, twos: u16) -> u64
 
 // Advances an engine from the start of a pair's run until b is 0, which is when it refuses to go on.
 fn advance_to_end<E: Engine>(engine: &mut E, pair: AdmittedPair) -> Run
-    requires { meaning engine.old ≡ held (order_of pair) (start_of pair) }
-    ensures { Finished pair result (meaning engine.new) }
+    requires { E.meaning engine.old ≡ held (order_of pair) (start_of pair) }
+    ensures { Finished pair result (E.meaning engine.new) }
 {
     let mut commands = Commands::new();
     while let Ok(command) = engine.advance() {
@@ -39,7 +39,7 @@ fn advance_to_end<E: Engine>(engine: &mut E, pair: AdmittedPair) -> Run
 
 // The whole run of a pair: begins the engine with it and advances the engine to the end.
 pub fn run_to_end<E: Engine>(engine: &mut E, pair: AdmittedPair) -> Result<Run, Fault>
-    ensures { Runs largest (meaning engine.old) pair result (meaning engine.new) }
+    ensures { Runs E.largest (E.meaning engine.old) pair result (E.meaning engine.new) }
 {
     engine.begin(pair)?;
     Ok(advance_to_end(engine, pair))

@@ -13,12 +13,12 @@ loop-left-preserved c =
     reading_more c.args.text.now xs left x (search rules) c.loop-left.invariant (sym c.byte.ensures ∙ c.in-Some.is)
     ∙ ap₂ (λ ys ds. after ys (hex_reading ds)) (sym pushed) (sym (take_rest left 2))
 
-pub returns-then-is-empty : goal.returns-then-is-empty
-returns-then-is-empty c = reading_all c.args.text.now (vec_items c.loop-left.bytes) c.loop-left.left.now (search rules) c.loop-left.invariant
+pub returns-then-is_empty : goal.returns-then-is_empty
+returns-then-is_empty c = reading_all c.args.text.now (vec_items c.loop-left.bytes) c.loop-left.left.now (search rules) c.loop-left.invariant
 
-pub returns-else-is-empty : goal.returns-else-is-empty
-returns-else-is-empty c = reading_odd c.args.text.now (vec_items c.loop-left.bytes) c.loop-left.left.now (search rules) c.loop-left.invariant
+pub returns-else-is_empty : goal.returns-else-is_empty
+returns-else-is_empty c = reading_odd c.args.text.now (vec_items c.loop-left.bytes) c.loop-left.left.now (search rules) c.loop-left.invariant
 
-pub returns-in-default-byte : goal.returns-in-default-byte
-returns-in-default-byte c =
-    reading_no_digit c.args.text.now (vec_items c.loop-left.bytes) c.loop-left.left.now (search rules) c.loop-left.invariant (sym c.byte.ensures ∙ c.in-default-byte.is)
+pub returns-in_default-byte : goal.returns-in_default-byte
+returns-in_default-byte c =
+    reading_no_digit c.args.text.now (vec_items c.loop-left.bytes) c.loop-left.left.now (search rules) c.loop-left.invariant (sym c.byte.ensures ∙ c.in_default-byte.is)

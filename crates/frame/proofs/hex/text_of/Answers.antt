@@ -10,7 +10,7 @@ loop-x-preserved c =
     let x = get_or bs i 0 in
     let text = string_bytes c.loop-x.text in
     let small : x < 256 = search rules in
-    let pushed = pushed_two text (string_bytes c.push.new.self) (string_bytes c.push-in-loop-x.new.self) c.digit-char.result c.digit-char-in-loop-x.result (x / 16) (x % 16) (omega arith) (omega arith) c.digit-char.ensures c.digit-char-in-loop-x.ensures c.push.ensures.ascii c.push-in-loop-x.ensures.ascii c.in-ok-push.ensures.bytes c.in-ok-push-2.ensures.bytes in
+    let pushed = pushed_two text (string_bytes c.push.new.self) (string_bytes c.push-in-loop-x.new.self) c.digit_char.result c.digit_char-in-loop-x.result (x / 16) (x % 16) (omega arith) (omega arith) c.digit_char.ensures c.digit_char-in-loop-x.ensures c.push.ensures.ascii c.push-in-loop-x.ensures.ascii c.in_ok-push.ensures.bytes c.in_ok-push-2.ensures.bytes in
     ap (λ l. l ++ hex_text (drop (i + 1) bs)) pushed ∙ text_more bs text i c.loop-x-test.true c.loop-x.invariant
 
 pub returns : goal.returns

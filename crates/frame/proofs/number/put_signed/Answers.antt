@@ -15,11 +15,11 @@ loop-i-preserved c =
     let z = c.loop-i.rest in
     let e : suc j ≡ c.loop-i.i = omega arith in
     let h : at + j < length xs = search rules in
-    let f : SFits w64 c.without-low-byte-rest.result = search rules in
-    let x = c.low-byte.result in (
+    let f : SFits w64 c.without_low_byte-rest.result = search rules in
+    let x = c.low_byte.result in (
       take-set-le at xs (at + j) x (omega arith) ∙ c.loop-i.invariant.0,
-      ap (λ y. signed_bytes j y ++ drop (at + j) (set xs (at + j) x)) (to_z-of_z w64 _ f ∙ c.without-low-byte-rest.ensures ∙ ap (λ y. shr_z y 256) c.loop-i.rest-is)
-          ∙ put_more xs at j x z (c.low-byte.ensures ∙ ap low_byte c.loop-i.rest-is) h
+      ap (λ y. signed_bytes j y ++ drop (at + j) (set xs (at + j) x)) (to_z-of_z w64 _ f ∙ c.without_low_byte-rest.ensures ∙ ap (λ y. shr_z y 256) c.loop-i.rest-is)
+          ∙ put_more xs at j x z (c.low_byte.ensures ∙ ap low_byte c.loop-i.rest-is) h
           ∙ ap₂ (λ k y. signed_bytes k y ++ drop (at + k) xs) e (sym c.loop-i.rest-is)
           ∙ c.loop-i.invariant.1,
     )

@@ -5,9 +5,9 @@ use Rattle.frame.specs.Numbers.{signed_from, signed_value}
 use Rattle.frame.proofs.Numbers.{seven_more_fit, appended_low, appended_high, signed_value-first}
 use Rattle.frame.proofs.number.signed.Goals as goal
 
-pub returns-in-default : goal.returns-in-default
+pub returns-in_default : goal.returns-in_default
 unfolding signed_value
-returns-in-default c = ap signed_value (sym (nil_from_length c.args.bytes.now (search rules)))
+returns-in_default c = ap signed_value (sym (nil_from_length c.args.bytes.now (search rules)))
 
 pub appended-value-requires : goal.appended-value-requires
 appended-value-requires c =
@@ -31,6 +31,6 @@ unfolding signed_from
 returns c =
     let s = c.args.bytes.now in
     let xs = take (length s - 1) (drop 1 s) in
-    let r : SFits w64 c.sign-byte-value.result = search rules in
-    let e = to_z-of_z w64 c.sign-byte-value.result r ∙ c.sign-byte-value.ensures in
+    let r : SFits w64 c.sign_byte-value.result = search rules in
+    let e = to_z-of_z w64 c.sign_byte-value.result r ∙ c.sign_byte-value.ensures in
     sym (at_drop_all (signed_from _) xs c.loop-x.x-index c.loop-x-test.false) ∙ c.loop-x.invariant.2 ∙ ap (λ z. signed_from z xs) e ∙ sym (signed_value-first s (search rules))

@@ -7,24 +7,24 @@ use Rattle.frame.proofs.Reading.{reads_admitted, reading_headed, reading_refused
 use Rattle.frame.proofs.RoundTrips.{framed}
 use Rattle.frame.proofs.pair.read_pair.Goals as goal
 
-pub returns-in-err-order : goal.returns-in-err-order
-returns-in-err-order c =
+pub returns-in_err-order : goal.returns-in_err-order
+returns-in_err-order c =
     let s = c.args.bytes.now in
-    let f = c.in-err-order.field-0.0 in
-    let e : reading s ≡ refused f = reading_refused s f c.from-be-bytes-length.result c.from-be-bytes-order.result _ (search rules) (search rules) (search rules) (ap length (take_rest s 5)) c.in-err-order.ensures in
+    let f = c.in_err-order.field-0.0 in
+    let e : reading s ≡ refused f = reading_refused s f c.from_be_bytes-length.result c.from_be_bytes-order.result _ (search rules) (search rules) (search rules) (ap length (take_rest s 5)) c.in_err-order.ensures in
     record { reads = search rules; unique = search rules }
 
 pub returns : goal.returns
 returns c =
     let s = c.args.bytes.now in
-    let o = c.in-ok-order.order in
-    let a = c.read-operands-a.result.0 in
-    let b = c.read-operands-a.result.1 in
+    let o = c.in_ok-order.order in
+    let a = c.read_operands-a.result.0 in
+    let b = c.read_operands-a.result.1 in
     let f : SFits w64 a = search rules in
     let g : SFits w64 b = search rules in
     let headed =
     reading_headed s o.value a b (search rules) (search rules) (search rules)
-    (c.read-operands-a.ensures.a ∙ ap signed_value (ap₂ take c.width.ensures (take_rest s 5)))
-    (c.read-operands-a.ensures.b ∙ ap signed_value (ap₂ drop c.width.ensures (take_rest s 5))) in
+    (c.read_operands-a.ensures.a ∙ ap signed_value (ap₂ take c.width.ensures (take_rest s 5)))
+    (c.read_operands-a.ensures.b ∙ ap signed_value (ap₂ drop c.width.ensures (take_rest s 5))) in
     let reads = reads_admitted s o _ _ c.new-2.result (simp to_z-of_z headed) c.new-2.ensures in
-    record { reads = reads; unique = framed s c.new-2.result (λ i. (c.type-inv.bytes i).fits) reads }
+    record { reads = reads; unique = framed s c.new-2.result (λ i. (c.type_inv.bytes i).fits) reads }

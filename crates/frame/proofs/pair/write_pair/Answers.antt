@@ -13,4 +13,4 @@ pub returns : goal.returns
 returns c =
     let p = c.args.pair in
     let w : c.width.result ≡ width p.order.value = c.width.ensures ∙ ap (λ o. width o.value) c.order.ensures in
-    (omega (arith, w, length-pair_frame p.order.value p.a p.b), c.put-pair.ensures ∙ pair_placed_lem p.order.value p.a p.b c.args.buffer.now)
+    (omega (arith, w, length-pair_frame p.order.value p.a p.b), c.put_pair.ensures ∙ pair_placed_lem p.order.value p.a p.b c.args.buffer.now)

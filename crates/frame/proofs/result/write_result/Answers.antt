@@ -9,4 +9,4 @@ returns-then-buffer-length c =
 pub returns : goal.returns
 returns c =
     let r = c.args.reduction.now in
-    (omega (arith, c.width.ensures, length-result_frame r), c.put-result.ensures ∙ result_placed_lem r c.args.buffer.now)
+    (omega (arith, c.width.ensures, length-result_frame r), c.put_result.ensures ∙ result_placed_lem r c.args.buffer.now)

@@ -10,11 +10,11 @@ pub unreachable-requires : goal.unreachable-requires
 unreachable-requires c =
     let t = cofactor_table c.args.cofactor.now in
     let e = ap (λ i. cofactors_at i t) (to_z-of_z w64 c.args.a c.ranges.a) in
-    cofactors_there c.args.run.now c.args.a t (fraction_table c.args.fraction.now) c.requires (sym (c.cofactors.ensures ∙ e) ∙ c.in-default.is)
+    cofactors_there c.args.run.now c.args.a t (fraction_table c.args.fraction.now) c.requires (sym (c.cofactors.ensures ∙ e) ∙ c.in_default.is)
 
-pub unreachable-requires-in-default-read-out : goal.unreachable-requires-in-default-read-out
-unreachable-requires-in-default-read-out c =
-    ratio_there c.args.run.now c.args.a (cofactor_table c.args.cofactor.now) (fraction_table c.args.fraction.now) c.requires (sym c.read-out.ensures ∙ c.in-default-read-out.is)
+pub unreachable-requires-in_default-read_out : goal.unreachable-requires-in_default-read_out
+unreachable-requires-in_default-read_out c =
+    ratio_there c.args.run.now c.args.a (cofactor_table c.args.cofactor.now) (fraction_table c.args.fraction.now) c.requires (sym c.read_out.ensures ∙ c.in_default-read_out.is)
 
 pub assembled-requires : goal.assembled-requires
 assembled-requires c =
@@ -24,7 +24,7 @@ assembled-requires c =
     let e = ap (λ i. cofactors_at i t) (to_z-of_z w64 c.args.a c.ranges.a) in
     record {
       few = count_fits r c.args.a t s c.requires;
-      fit = fits r c.args.a t s c.in-Some.cofactors c.in-Some-read-out.ratio c.requires (sym (c.cofactors.ensures ∙ e) ∙ c.in-Some.is) (sym c.read-out.ensures ∙ c.in-Some-read-out.is);
+      fit = fits r c.args.a t s c.in-Some.cofactors c.in-Some-read_out.ratio c.requires (sym (c.cofactors.ensures ∙ e) ∙ c.in-Some.is) (sym c.read_out.ensures ∙ c.in-Some-read_out.is);
     }
 
 pub returns : goal.returns
@@ -33,4 +33,4 @@ returns c =
     let t = cofactor_table c.args.cofactor.now in
     let s = fraction_table c.args.fraction.now in
     let e = ap (λ i. cofactors_at i t) (to_z-of_z w64 c.args.a c.ranges.a) in
-    right r c.args.a t s c.in-Some.cofactors c.in-Some-read-out.ratio c.assembled.result c.requires (sym (c.cofactors.ensures ∙ e) ∙ c.in-Some.is) (sym c.read-out.ensures ∙ c.in-Some-read-out.is) c.assembled.ensures
+    right r c.args.a t s c.in-Some.cofactors c.in-Some-read_out.ratio c.assembled.result c.requires (sym (c.cofactors.ensures ∙ e) ∙ c.in-Some.is) (sym c.read_out.ensures ∙ c.in-Some-read_out.is) c.assembled.ensures

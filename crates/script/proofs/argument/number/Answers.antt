@@ -6,6 +6,6 @@ use Rattle.script.proofs.argument.number.Goals as goal
 
 pub returns : goal.returns
 returns c =
-    let plus = starts_char 43 c.args.word.now _ c.starts-with.ensures.cases (lit< tt) (lit< tt) in
+    let plus = starts_char 43 c.args.word.now _ c.starts_with.ensures.cases (lit< tt) (lit< tt) in
     subst (NumberOf c.args.word.now) (sym c.ok.ensures.value)
-    (number_from_parse c.args.word.now c.parse.result c.parse.ensures.value.0 (λ e. true≢false (sym (plus.1 e) ∙ c.if-starts-with.false)))
+    (number_from_parse c.args.word.now c.parse.result c.parse.ensures.value.0 (λ e. true≢false (sym (plus.1 e) ∙ c.if-starts_with.false)))

@@ -34,7 +34,7 @@ loop-line-preserved c =
     let calls = vec_items c.add.new.self.calls in
     let entries = vec_items c.add.new.self.entries in
     let number : c.loop-line.place + 1 ≡ 1 + length (map (λ x. x.now) pieces) = omega (arith, before.0, length-map pieces (λ x. x.now)) in
-    let adds = subst (λ n. Adds n c.in-Some.line.now (vec_items c.loop-line.script.calls) (vec_items c.loop-line.script.entries) calls entries) number c.in-ok-add.ensures in (
+    let adds = subst (λ n. Adds n c.in-Some.line.now (vec_items c.loop-line.script.calls) (vec_items c.loop-line.script.entries) calls entries) number c.in_ok-add.ensures in (
       omega (arith, before.0, length-append pieces (c.in-Some.line ∷ [])),
       search rules,
       subst (λ ls. AddInTurn 1 ls [] [] calls entries) (sym (map-append (λ x. x.now) pieces (c.in-Some.line ∷ [])))

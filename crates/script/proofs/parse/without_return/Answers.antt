@@ -5,5 +5,5 @@ use Rattle.script.proofs.parse.without_return.Goals as goal
 
 pub returns : goal.returns
 returns c =
-    ap (λ l. l.now) c.unwrap-or.ensures
-    ∙ bare_stripped c.args.line c.strip-suffix.result (strip_suffix_char 13 c.args.line.now c.strip-suffix.result c.strip-suffix.ensures.cases (lit< tt))
+    ap (λ l. l.now) c.unwrap_or.ensures
+    ∙ bare_stripped c.args.line c.strip_suffix.result (strip_suffix_char 13 c.args.line.now c.strip_suffix.result c.strip_suffix.ensures.cases (lit< tt))

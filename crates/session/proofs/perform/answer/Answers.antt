@@ -3,7 +3,7 @@ use Rattle.session.proofs.Events.{load_happened, stint_happened, work_happened, 
 use Rattle.session.proofs.perform.answer.Goals as goal
 
 pub returns-in-Load : goal.returns-in-Load
-returns-in-Load g c = λ o stands. load_happened g.E.Engine.largest o _ _ c.args.call stands c.in-Load.frame _ c.load.result c.in-Load.is c.as-slice.ensures.value c.load.ensures
+returns-in-Load g c = λ o stands. load_happened g.E.Engine.largest o _ _ c.args.call stands c.in-Load.frame _ c.load.result c.in-Load.is c.as_slice.ensures.value c.load.ensures
 
 pub returns-in-Stint : goal.returns-in-Stint
 returns-in-Stint g c = λ o stands. stint_happened g.E.Engine.largest o _ _ c.args.call stands c.in-Stint.most c.stint.result c.in-Stint.is c.stint.ensures
@@ -14,7 +14,7 @@ returns-in-Work g c = λ o stands. work_happened g.E.Engine.largest o _ _ c.args
 pub returns-in-Collect : goal.returns-in-Collect
 returns-in-Collect g c = λ o stands.
     let long : length c.collect-length.new.buffer ≡ c.in-Collect.buffer.len = search rules in
-    collect_happened g.E.Engine.largest o _ c.args.call stands c.in-Collect.buffer c.as-mut-slice.result.now c.collect-length.new.buffer c.collect-length.result c.in-Collect.is c.as-mut-slice.ensures.value long c.collect-length.ensures
+    collect_happened g.E.Engine.largest o _ c.args.call stands c.in-Collect.buffer c.as_mut_slice.result.now c.collect-length.new.buffer c.collect-length.result c.in-Collect.is c.as_mut_slice.ensures.value long c.collect-length.ensures
 
 pub returns-in-Clear : goal.returns-in-Clear
 returns-in-Clear g c = λ o stands. clear_happened g.E.Engine.largest o _ _ c.args.call stands c.clear.result c.in-Clear.is c.clear.ensures

@@ -17,8 +17,8 @@ loop-call-preserved g c =
       tt,
       tt,
       append_assoc c.loop-call.yielded (c.in-Some.call ∷ []) (into_iter_items c.next.new.self) ∙ ap (λ (l : List Call). c.loop-call.yielded ++ l) (sym c.in-Some.ensures.steps.0) ∙ i.2,
-      omega (arith, i.3, c.in-Some.ensures.steps.1, c.push-reserved.ensures.len, c.push-reserved.ensures.capacity),
-      λ e. performed_more g.E.Engine.largest _ _ _ c.loop-call.yielded _ _ _ c.answer.result c.push-reserved.ensures.items (i.4 e) c.answer.ensures,
+      omega (arith, i.3, c.in-Some.ensures.steps.1, c.push_reserved.ensures.len, c.push_reserved.ensures.capacity),
+      λ e. performed_more g.E.Engine.largest _ _ _ c.loop-call.yielded _ _ _ c.answer.result c.push_reserved.ensures.items (i.4 e) c.answer.ensures,
     )
 
 pub returns : goal.returns

@@ -27,11 +27,11 @@ pub divisor-gcd-requires : goal.divisor-gcd-requires
 divisor-gcd-requires g c =
     let m = g.E.Engine.meaning in
     let f : SFits w64 c.a.result = search rules in
-    simp to_z-of_z (simp c.a.ensures (divisor_fits c.args.pair (listed c.loop-command.commands) c.in-default.field-0 (m c.loop-command.engine) (m c.advance.new.self) c.twos-twos.result c.loop-command.invariant c.in-default.ensures c.twos-twos.ensures))
+    simp to_z-of_z (simp c.a.ensures (divisor_fits c.args.pair (listed c.loop-command.commands) c.in_default.field-0 (m c.loop-command.engine) (m c.advance.new.self) c.twos-twos.result c.loop-command.invariant c.in_default.ensures c.twos-twos.ensures))
 
 pub returns : goal.returns
 returns g c =
     let m = g.E.Engine.meaning in
     let f : SFits w64 c.a.result = search rules in
     let d = simp c.a.ensures at (simp to_z-of_z at c.divisor-gcd.ensures) in
-    finished c.args.pair _ c.in-default.field-0 (m c.loop-command.engine) (m c.advance.new.self) c.loop-command.invariant c.in-default.ensures refl c.twos-twos.ensures d
+    finished c.args.pair _ c.in_default.field-0 (m c.loop-command.engine) (m c.advance.new.self) c.loop-command.invariant c.in_default.ensures refl c.twos-twos.ensures d

@@ -12,11 +12,11 @@ command-command-requires c = held_narrow c.args.self
 pub obeyed-registers-requires : goal.obeyed-registers-requires
 obeyed-registers-requires c = held_narrow c.args.self
 
-pub invariant-of-result : goal.invariant-of-result
-invariant-of-result c =
+pub invariant_of-result : goal.invariant_of-result
+invariant_of-result c =
     let h = c.args.self in
     let e = obeyed-next h.registers c.obeyed-registers.result c.command-command.result c.command-command.ensures c.obeyed-registers.ensures in
-    (∥∥₁_map h.reached (λ r. subst (Reached h.order.value) (sym e) (reached_next h.order.value (state_of h.registers) c.requires r)), tt)
+    record { reached = ∥∥₁_map h.reached (λ r. subst (Reached h.order.value) (sym e) (reached_next h.order.value (state_of h.registers) c.requires r)) }
 
 pub returns : goal.returns
 returns c =

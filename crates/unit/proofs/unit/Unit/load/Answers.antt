@@ -6,5 +6,5 @@ pub returns : goal.returns
 returns g c =
     let f = g.F.Follower in
     let none : c.args.self.now.pair ≡ None = search rules in
-    let b = c.in-ok-begin.ensures in
-    loads f.first f.turns g.E.Engine.largest _ _ c.args.frame.now c.in-ok-pair.pair none refl refl c.in-ok-pair.ensures.unique b.0 b.1 c.begin-2.ensures
+    let b = c.in_ok-begin.ensures in
+    loads f.first f.turns g.E.Engine.largest _ _ c.args.frame.now c.in_ok-pair.pair none refl refl c.in_ok-pair.ensures.unique b.0 b.1 c.begin-2.ensures

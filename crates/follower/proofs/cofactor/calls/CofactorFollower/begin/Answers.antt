@@ -2,10 +2,13 @@ use Rattle.std.proofs.Common.{◌^◌, ◌≤◌, arith, pow_mono, w64, SFits, r
 use Rattle.std.proofs.lemmas.Int.{to_z-of_z}
 use Rattle.follower.proofs.cofactor.calls.CofactorFollower.begin.Goals as goal
 
-pub invariant-of-self : goal.invariant-of-self
-invariant-of-self c =
+pub invariant_of-self : goal.invariant_of-self
+invariant_of-self c =
     let p = c.args.pair in
     let w : 2 ^ p.order.value ≤ 2 ^ 56 = pow_mono p.order.admitted.1 in
     let f : SFits w64 c.a.result = search rules in
     let g : SFits w64 c.b.result = search rules in
-    ((simp to_z-of_z (simp c.a.ensures (omega (arith, w, p.admitted.0))), simp to_z-of_z (simp c.b.ensures (omega (arith, w, p.admitted.1)))), ((omega arith, omega arith, omega arith, omega arith), tt))
+    record {
+      pair = (simp to_z-of_z (simp c.a.ensures (omega (arith, w, p.admitted.0))), simp to_z-of_z (simp c.b.ensures (omega (arith, w, p.admitted.1))));
+      rows = (omega arith, omega arith, omega arith, omega arith);
+    }

@@ -1,6 +1,6 @@
 -- What the rule and the followers do to the marked pairs.
 use Rattle.std.specs.Prelude.{◌≡◌, length, Some}
-use Rattle.std.specs.List.{AllByRecursion as All}
+use Rattle.std.specs.List.{AllByRecursion}
 use Rattle.rule.specs.Marked.{Line, marked, Holds}
 use Rattle.rule.specs.Pairs.{order_of}
 use Rattle.rule.specs.Rule.{start, after}
@@ -25,4 +25,4 @@ pub record AsMarked (l : Line) : Type 0 where
   pub fraction : (p : AdmittedPair) → OfLine l p → read_out (turned fraction_turns (fraction_first p) l.commands) ≡ Some (record { numerator = l.numerator; denominator = l.denominator })
 
 abbrev pub MarkedPairs : Type 0
-MarkedPairs = All AsMarked marked
+MarkedPairs = AllByRecursion AsMarked marked

@@ -1,7 +1,7 @@
 -- Bytes of whole numbers: one byte more, how many there are, and the way back.
 use Rattle.std.proofs.Common.{◌≡◌, ℕ, zero, suc, ◌+◌, ◌-◌, ◌*◌, ◌^◌, ◌<◌, ◌≤◌, List, [], ◌∷◌, ◌++◌, length, get_or, take, drop, ℤ, pos, negsuc, ◌-ℤ◌, neg_ℤ, ◌≤ℤ◌, ◌<ℤ◌, sym, refl, ap, ◌∙◌, ap₂, ⊎_elim, mul_comm, add-one, arith, pow_mono, pow-add}
 use lib.Signed.{shr_z, mag}
-use Rattle.std.specs.List.{AllByRecursion as All}
+use Rattle.std.specs.List.{AllByRecursion}
 use Rattle.std.proofs.lemmas.Int.{ints}
 use Rattle.std.proofs.lemmas.List.{take_rest, append-nil, append_assoc, length_push}
 use Rattle.std.proofs.lemmas.Bool.{lt-ltb, le-ltb, cases_lt}
@@ -85,7 +85,7 @@ read_back (suc k) z h =
     signed_value-push xs (low_byte z) l ∙ ap (λ y. appended y (low_byte z)) (read_back k (shr_z z 256) (rest_range z (2 ^ (8 * k + 7)) (omega (arith, e, h)))) ∙ appended_rest z
 
 -- bytes are the bytes of the number that they stand for
-bytes_from : (k : ℕ) (z : ℤ) (xs : List ℕ) → All (λ x. x < 256) xs → signed_bytes (length xs + k) (signed_from z xs) ≡ signed_bytes k z ++ xs
+bytes_from : (k : ℕ) (z : ℤ) (xs : List ℕ) → AllByRecursion (λ x. x < 256) xs → signed_bytes (length xs + k) (signed_from z xs) ≡ signed_bytes k z ++ xs
 unfolding signed_from signed_bytes
 bytes_from k z [] h = ap (λ m. signed_bytes m z) (let e : 0 + k ≡ k = omega arith in e) ∙ sym (append-nil (signed_bytes k z))
 bytes_from k z (x ∷ xs) h =
@@ -96,7 +96,7 @@ bytes_from k z (x ∷ xs) h =
     ∙ ap₂ (λ (r : ℤ) (b : ℕ). (signed_bytes k r ++ b ∷ []) ++ xs) (rest_of y z x refl h.0) (low_of y z x refl h.0)
     ∙ append_assoc (signed_bytes k z) (x ∷ []) xs
 
-pub bytes_of_value : (xs : List ℕ) → All (λ x. x < 256) xs → signed_bytes (length xs) (signed_value xs) ≡ xs
+pub bytes_of_value : (xs : List ℕ) → AllByRecursion (λ x. x < 256) xs → signed_bytes (length xs) (signed_value xs) ≡ xs
 unfolding signed_value signed_bytes
 bytes_of_value [] h = refl
 bytes_of_value (x ∷ xs) h =

@@ -1,7 +1,7 @@
 -- Frames and back.
 use Rattle.std.proofs.Common.{◌≡◌, ℕ, ◌+◌, ◌*◌, ◌/◌, ◌%◌, ◌^◌, ◌<◌, ◌≤◌, List, [], ◌∷◌, ◌++◌, length, get_or, take, drop, ℤ, pos, negsuc, nat_abs, Some, None, Ok, Err, Option, Result, sym, refl, ap, ◌∙◌, ap₂, add-one, arith, pow_mono}
 use lib.Signed.{mag}
-use Rattle.std.specs.List.{AllByRecursion as All}
+use Rattle.std.specs.List.{AllByRecursion}
 use Rattle.std.proofs.ByRecursion.{All-take, All-drop, All-from_get_or}
 use Rattle.std.proofs.lemmas.List.{length-take-le, length-drop, length-append, take_at, drop_at, take-append-drop}
 use Rattle.std.proofs.lemmas.Bool.{eq-eqb, ne_eqb, le-leb, lt-leb}
@@ -60,10 +60,10 @@ clear None None m n x y a b e = record { head = refl; order = cc; first = cc; se
 clear (Some f) p m n x y a b e = absurd (let z : ◌≡◌ {A = ℕ} 0 1 = cc in omega arith)
 clear None (Some f) m n x y a b e = absurd (let z : ◌≡◌ {A = ℕ} 0 1 = cc in omega arith)
 
-operand_bytes : (k : ℕ) (xs : List ℕ) (z : ℤ) → length xs ≡ k → All (λ x. x < 256) xs → signed_value xs ≡ z → signed_bytes k z ≡ xs
+operand_bytes : (k : ℕ) (xs : List ℕ) (z : ℤ) → length xs ≡ k → AllByRecursion (λ x. x < 256) xs → signed_value xs ≡ z → signed_bytes k z ≡ xs
 operand_bytes k xs z l h e = ap₂ signed_bytes (sym l) (sym e) ∙ bytes_of_value xs h
 
-checked_unique : (p q v s t : ℕ) (ops : List ℕ) (n : ℕ) (a b : ℤ) → All (λ x. x < 256) (p ∷ q ∷ v ∷ s ∷ t ∷ ops) → checked (word p q) v (word s t) ops ≡ read n a b → p ∷ q ∷ v ∷ s ∷ t ∷ ops ≡ pair_frame n a b
+checked_unique : (p q v s t : ℕ) (ops : List ℕ) (n : ℕ) (a b : ℤ) → AllByRecursion (λ x. x < 256) (p ∷ q ∷ v ∷ s ∷ t ∷ ops) → checked (word p q) v (word s t) ops ≡ read n a b → p ∷ q ∷ v ∷ s ∷ t ∷ ops ≡ pair_frame n a b
 checked_unique p q v s t ops n a b h e =
     let m = word s t in
     let k = width m in

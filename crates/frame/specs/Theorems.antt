@@ -1,6 +1,6 @@
 -- What is shown of frames.
 use Rattle.std.specs.Prelude.{◌≡◌, ℕ, ◌<◌, ◌≤◌, List, ◌++◌, map, length, ℤ}
-use Rattle.std.specs.List.{flat_map, AllByRecursion as All}
+use Rattle.std.specs.List.{flat_map, AllByRecursion}
 use Rattle.rule.specs.Admission.{width}
 use Rattle.rule.specs.Admitted.{OrderAdmitted, OperandsAdmitted}
 use Rattle.rule.specs.Whole.{Below}
@@ -17,7 +17,7 @@ PairIsReadBack = (n : ℕ) (a b : ℤ) → OrderAdmitted n → OperandsAdmitted 
 
 -- Bytes that are read as a pair are its frame, so that no two inputs are read alike.
 abbrev pub FrameIsUnique : Type 0
-FrameIsUnique = (bytes : List ℕ) (n : ℕ) (a b : ℤ) → All (λ x. x < 256) bytes → reading bytes ≡ read n a b → bytes ≡ pair_frame n a b
+FrameIsUnique = (bytes : List ℕ) (n : ℕ) (a b : ℤ) → AllByRecursion (λ x. x < 256) bytes → reading bytes ≡ read n a b → bytes ≡ pair_frame n a b
 
 -- A number below 2^n in size is read back from its bytes.
 abbrev pub NumberIsReadBack : Type 0
@@ -25,7 +25,7 @@ NumberIsReadBack = (n : ℕ) (z : ℤ) → Below n z → signed_value (signed_by
 
 -- Bytes are read back from their hexadecimal text.
 abbrev pub HexIsReadBack : Type 0
-HexIsReadBack = (bytes : List ℕ) → All (λ x. x < 256) bytes → hex_reading (hex_text bytes) ≡ good bytes
+HexIsReadBack = (bytes : List ℕ) → AllByRecursion (λ x. x < 256) bytes → hex_reading (hex_text bytes) ≡ good bytes
 
 -- Every input is cut into pieces, in one way only.
 abbrev pub PiecesOfInput : Type 0
@@ -33,7 +33,7 @@ PiecesOfInput = (input : List ℕ) → (pieces : List (List ℕ)) × Pieces inpu
 
 -- The pieces one behind the other are the input, and none of them is empty.
 abbrev pub PiecesAreWhole : Type 0
-PiecesAreWhole = (input : List ℕ) (pieces : List (List ℕ)) → Pieces input pieces → (flat_map (λ piece. piece) pieces ≡ input) × All (λ piece. 1 ≤ length piece) pieces
+PiecesAreWhole = (input : List ℕ) (pieces : List (List ℕ)) → Pieces input pieces → (flat_map (λ piece. piece) pieces ≡ input) × AllByRecursion (λ piece. 1 ≤ length piece) pieces
 
 -- The frame of a pair is cut off whole, whatever is behind it.
 abbrev pub FrameIsCutOff : Type 0

@@ -1,5 +1,5 @@
 -- What `trim_start_matches` and `find` give at blanks and tabs is how a text is cut into words.
-use Rattle.std.proofs.Common.{◌≡◌, ℕ, zero, suc, ◌+◌, ◌<◌, ◌≤◌, Bool, true, false, cond, List, [], ◌∷◌, ◌++◌, length, get_or, take, drop, IfSome, Some, None, Option, sym, refl, ap, ◌∙◌, subst, ⊎_elim, true≢false, arith, length-drop, rules}
+use Rattle.std.proofs.Common.{◌≡◌, ℕ, zero, suc, ◌<◌, ◌≤◌, Bool, true, false, cond, List, [], ◌∷◌, ◌++◌, length, get_or, take, drop, IfSome, Some, None, Option, sym, refl, ap, ◌∙◌, subst, ⊎_elim, true≢false, arith, length-drop, rules}
 use mathlib.Core.Bool.{false≢true}
 use lib.Utf8.{scalar}
 use Rattle.std.specs.Str.Pattern.{FindsPrefixBy, FindsBy, IsTrimStartMatches, IsFullyTrimmed, CutsPrefixes}

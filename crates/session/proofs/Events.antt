@@ -1,5 +1,5 @@
 -- What one call makes of a history.
-use Rattle.std.proofs.Common.{◌≡◌, ℕ, List, length, Some, None, Ok, Err, vec_items, Option, Result, Vec, sym, refl, ◌∙◌, subst, arith}
+use Rattle.std.proofs.Common.{◌≡◌, ℕ, List, length, Some, None, Ok, Err, vec_items, Option, Result, Vec, sym, refl, subst, arith}
 use Rattle.std.proofs.lemmas.List.{with_items_is}
 use Rattle.std.specs.Vec.{with_items}
 use Rattle.std.specs.declared.alloc.Global.{Global}
@@ -10,7 +10,7 @@ use Rattle.unit.specs.Calls.{Loads, Stints, Works, Collects, Clears}
 use Rattle.reduction.specs.Followers.{Tables, first_tables, next_tables}
 use Rattle.unit.specs.Standing.{Contents, Standing, empty, Stands}
 use Rattle.unit.specs.declared.unit.Worked.{Worked}
-use Rattle.session.specs.History.{load, stint, work, collect, clear, Held, held_after, stint_after, standing}
+use Rattle.session.specs.History.{load, stint, work, collect, clear, Held, held_after, standing}
 use Rattle.session.specs.Performs.{Happened}
 use Rattle.session.specs.declared.call.Answer.TheVariants.{Loaded, Stinted, Worked as WorkedAnswer, Collected, Cleared}
 use Rattle.session.specs.declared.call.Call.{Call}

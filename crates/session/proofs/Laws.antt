@@ -4,7 +4,6 @@ use Rattle.std.proofs.lemmas.List.{map_push, reverse-append}
 use Rattle.std.proofs.lemmas.Bool.{cases_Bool, leb-true, leb-false, eq-eqb, ne_eqb, le-leb, cond-true}
 use Rattle.rule.specs.Pairs.{order_of, start_of}
 use Rattle.rule.specs.Refusal.{number, fault}
-use Rattle.rule.specs.Rule.{Need}
 use Rattle.rule.specs.Whole.{whole}
 use Rattle.rule.specs.declared.fault.Fault.{Fault}
 use Rattle.rule.specs.declared.fault.Layer.TheVariants.{Unit as UnitLayer}

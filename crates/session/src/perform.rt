@@ -17,7 +17,7 @@ pub enum Unperformed {
 
 // One call, performed.
 fn answer<E: Engine>(unit: &mut Unit<E, Followers>, call: Call) -> Answer
-    ensures { Happens largest (contents meaning tables_of unit.old) call result (contents meaning tables_of unit.new) }
+    ensures { Happens E.largest (contents E.meaning tables_of unit.old) call result (contents E.meaning tables_of unit.new) }
 {
     match call {
         Call::Load(frame) => Answer::Loaded(unit.load(frame.as_slice())),
@@ -38,7 +38,7 @@ pub fn perform<E: Engine>(
     calls: Vec<Call>,
     room: Vec<Answer>,
 ) -> Result<Vec<Answer>, Unperformed>
-    ensures { Performs largest (contents meaning tables_of unit.old) calls.items (vec_capacity room) result (contents meaning tables_of unit.new) }
+    ensures { Performs E.largest (contents E.meaning tables_of unit.old) calls.items (vec_capacity room) result (contents E.meaning tables_of unit.new) }
 {
     if !unit.is_empty() {
         return Err(Unperformed::PairHeld);

@@ -14,7 +14,7 @@ pub fn reduce_frame<E: Engine>(
     frame: &[u8],
     buffer: &mut [u8],
 ) -> Result<usize, Fault>
-    ensures { ReducesFrame largest (contents meaning tables_of unit.old) frame.now buffer.old result buffer.new (contents meaning tables_of unit.new) }
+    ensures { ReducesFrame E.largest (contents E.meaning tables_of unit.old) frame.now buffer.old result buffer.new (contents E.meaning tables_of unit.new) }
 {
     if !unit.is_empty() {
         return Err(Fault::new(Reason::PairHeld, Layer::Unit, 0));

@@ -1,5 +1,5 @@
 -- What a unit that takes a pair does.
-use Rattle.std.proofs.Common.{◌≡◌, ℕ, ◌≤◌, true, false, List, Some, None, Ok, sym, ◌∙◌}
+use Rattle.std.proofs.Common.{◌≡◌, ℕ, ◌≤◌, List, Some, None, Ok, sym, ◌∙◌}
 use Rattle.std.proofs.lemmas.Bool.{true≢false}
 use Rattle.rule.specs.Pairs.{order_of, start_of}
 use Rattle.rule.specs.declared.command.Command.{Command}

@@ -3,6 +3,8 @@ use Rattle.std.specs.Prelude.{◌≡◌, ℕ, Some, None, Option}
 use Rattle.rule.specs.declared.command.Command.{Command}
 use Rattle.rule.specs.declared.pair.AdmittedPair.{AdmittedPair}
 use Rattle.engine.specs.Meaning.{Meaning}
+use Rattle.engine.specs.declared.engine.Engine as Engine
+use Rattle.follower.specs.declared.follower.Follower as Follower
 use Rattle.reduction.specs.Results.{Along}
 use Rattle.unit.specs.declared.unit.Unit.{Unit as AnyUnit}
 
@@ -14,7 +16,7 @@ pub record Contents (T : Type 0) : Type 0 where
   pub table : T
 
 -- What a unit holds, by what its engine and its followers mean.
-abbrev pub contents : {E F T : Type 0} → (E → Meaning) → (F → T) → AnyUnit E F → Contents T
+abbrev pub contents : {E F T : Type 0} {e : Engine.Ghosts E} {f : Follower.Ghosts F} → (E → Meaning) → (F → T) → AnyUnit E F e f → Contents T
 contents meaning table u = record { pair = u.pair; stint = u.stint; engine = meaning u.engine; table = table u.followers }
 
 -- Where a unit stands: empty, or so many commands into the run of the pair that it holds.

@@ -32,7 +32,7 @@ impl<E: Engine, F: Follower> Unit<E, F> {
 
     // Takes the pair of a frame, and answers it.
     pub fn load(&mut self, frame: &[u8]) -> Result<AdmittedPair, Fault>
-        ensures { Loads first turns largest (contents meaning table self.old) frame.now result (contents meaning table self.new) }
+        ensures { Loads F.first F.turns E.largest (contents E.meaning F.table self.old) frame.now result (contents E.meaning F.table self.new) }
     {
         if self.pair.is_some() {
             return Err(Fault::new(Reason::PairHeld, Layer::Unit, 0));
@@ -46,7 +46,7 @@ impl<E: Engine, F: Follower> Unit<E, F> {
 
     // Sets the most commands of one work.
     pub fn stint(&mut self, most: u64) -> Result<(), Fault>
-        ensures { Stints first turns (contents meaning table self.old) most result (contents meaning table self.new) }
+        ensures { Stints F.first F.turns (contents E.meaning F.table self.old) most result (contents E.meaning F.table self.new) }
     {
         if most == 0 || most > LARGEST_STINT {
             return Err(Fault::new(Reason::BudgetOutOfRange, Layer::Unit, 0));
@@ -57,7 +57,7 @@ impl<E: Engine, F: Follower> Unit<E, F> {
 
     // Empties the unit; its stint stays.
     pub fn clear(&mut self) -> Result<(), Fault>
-        ensures { Clears first turns (contents meaning table self.old) result (contents meaning table self.new) }
+        ensures { Clears F.first F.turns (contents E.meaning F.table self.old) result (contents E.meaning F.table self.new) }
     {
         if self.pair.is_none() {
             return Err(Fault::new(Reason::NothingHeld, Layer::Unit, 0));
@@ -84,7 +84,7 @@ impl<E: Engine> Unit<E, Followers> {
 
     // Writes the frame of the result to the front of a buffer, and answers how long it is.
     pub fn collect(&self, buffer: &mut [u8]) -> Result<usize, Fault>
-        ensures { Collects first_tables next_tables (contents meaning tables_of self.now) buffer.old result buffer.new }
+        ensures { Collects first_tables next_tables (contents E.meaning tables_of self.now) buffer.old result buffer.new }
     {
         let Some(pair) = self.pair else {
             return Err(Fault::new(Reason::NothingHeld, Layer::Unit, 0));

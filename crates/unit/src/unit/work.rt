@@ -10,7 +10,7 @@ use rule::fault::{Fault, Layer, Reason};
 impl<E: Engine, F: Follower> Unit<E, F> {
     // Does the lesser of the budget and the commands that are left.
     pub fn work(&mut self, budget: u64) -> Result<Worked, Fault>
-        ensures { Works first turns (contents meaning table self.old) budget result (contents meaning table self.new) }
+        ensures { Works F.first F.turns (contents E.meaning F.table self.old) budget result (contents E.meaning F.table self.new) }
     {
         if self.pair.is_none() {
             return Err(Fault::new(Reason::NothingHeld, Layer::Unit, 0));

@@ -14,9 +14,9 @@ pub returns : goal.returns
 returns c =
     let turns = c.loop-line.invariant.2 in
     let run =
-    run_of_exit (given.iterator-loop-line).next_gives c.into-iter-line-iterator.result c.loop-line.yielded c.loop-line.line-iterator c.loop-line.yielded-by
+    run_of_exit (given.iterator-loop-line).next_gives c.into_iter-line-iterator.result c.loop-line.yielded c.loop-line.line-iterator c.loop-line.yielded_by
     c.next.new.self c.in-None.ensures.steps in
-    let cut = (c.split-line-items.ensures.runs run.0 run.0.seen (run.1 ∙ c.into-iter-line-iterator.ensures.into-iter-gives)).2 (lit< tt) (λ q e. e, λ w o f. f) in
+    let cut = (c.split-line-items.ensures.runs run.0 run.0.seen (run.1 ∙ c.into_iter-line-iterator.ensures.into_iter_gives)).2 (lit< tt) (λ q e. e, λ w o f. f) in
     record {
       lines = record {
         lines = map (λ x. x.now) c.loop-line.yielded;

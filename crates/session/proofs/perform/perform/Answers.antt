@@ -28,5 +28,5 @@ returns g c =
     let i = c.loop-call.invariant in
     let rest = c.loop-call.call-iterator.rest in
     let none = nil_from_length rest.items (sym rest.ok.0 ∙ c.in-None.ensures.steps.0) in
-    let all = sym (append-nil c.loop-call.yielded) ∙ ap (λ (l : List Call). c.loop-call.yielded ++ l) (sym none) ∙ i.2 ∙ c.into-iter-call-iterator.ensures.into-iter-gives.0 in
+    let all = sym (append-nil c.loop-call.yielded) ∙ ap (λ (l : List Call). c.loop-call.yielded ++ l) (sym none) ∙ i.2 ∙ c.into_iter-call-iterator.ensures.into_iter_gives.0 in
     (empty, omega (arith, c.if-capacity-len.false, c.len.ensures, c.capacity.ensures, c.args.calls.ok.0), subst (λ (l : List Call). Performed g.E.Engine.largest (u c.args.unit.now) l (vec_items c.loop-call.answers) (u c.loop-call.unit)) all (i.4 empty))

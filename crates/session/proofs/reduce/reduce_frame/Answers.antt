@@ -6,7 +6,7 @@ use Rattle.session.proofs.reduce.reduce_frame.Goals as goal
 pub returns-in_err-load : goal.returns-in_err-load
 returns-in_err-load g c =
     let e : c.args.unit.now.pair ≡ None = search rules in
-    let p = err_from_is_err_and c.from-residual.result c.from-residual.ensures.1 in
+    let p = err_from_is_err_and c.from_residual.result c.from_residual.ensures.1 in
     reduces_refused g.E.Engine.largest _ _ c.args.frame.now _ _ _ e c.in_err-load.field-0.0 (p.1 ∙ ap Err p.2) refl c.in_err-load.ensures
 
 pub loop-init : goal.loop-init

@@ -4,7 +4,7 @@ use Rattle.reduction.specs.Results.{Along}
 use Rattle.unit.specs.Standing.{contents}
 use Rattle.unit.proofs.Works.{along_takes, along_more, works, works_refused, works_never}
 use Rattle.unit.proofs.unit.Unit.work.Goals as goal
-use Rattle.unit.proofs.unit.Unit.work.Goals.{then-loop-done-test+else-not-is-over, else-loop-done-test, then-budget-eq0-via-then-budget-eq0, then-budget-eq0-via-else-budget-eq0+then-budget-self}
+use Rattle.unit.proofs.unit.Unit.work.Goals.{then-loop-done-test+else-not-is_over, else-loop-done-test, then-budget-eq0-via-then-budget-eq0, then-budget-eq0-via-else-budget-eq0+then-budget-self}
 
 pub returns-then-budget-eq0 : goal.returns-then-budget-eq0
 returns-then-budget-eq0 g c =
@@ -24,11 +24,11 @@ returns-in_err-follow g c =
     let f = g.F.Follower in
     let u = c.args.self.now in
     let some : u.pair ≡ None → ⊥ = search rules in
-    works_never f.first f.turns (contents m f.table u) _ c.args.budget some (sym c.if-is_over.ensures) c.from-residual-in_err-follow.result
+    works_never f.first f.turns (contents m f.table u) _ c.args.budget some (sym c.if-is_over.ensures) c.from_residual-in_err-follow.result
     (λ p k a. along_takes f.first f.turns p (k + c.loop-done.done) (m c.loop-done.self.engine) (m c.advance.new.self) (f.table c.loop-done.self.followers) (f.table c.follow.new.self) c.in_ok-command.command c.in_err-follow.field-0.0 f.accepts f.relation g.met.F.Follower.follows (c.loop-done.invariant.3 p k a) c.in_ok-command.ensures c.in_err-follow.ensures)
 
-pub overflow-add-done : goal.overflow-add-done
-overflow-add-done g c = omega (arith, c.loop-done-test.true, c.ranges.budget.fits)
+pub overflow_add-done : goal.overflow_add-done
+overflow_add-done g c = omega (arith, c.loop-done-test.true, c.ranges.budget.fits)
 
 pub loop-done-preserved : goal.loop-done-preserved
 loop-done-preserved g c =
@@ -51,5 +51,5 @@ returns g c =
     let some : c.args.self.now.pair ≡ None → ⊥ = search rules in
     works f.first f.turns (contents m f.table c.args.self.now) (contents m f.table c.loop-done.self) c.args.budget some (sym c.if-is_over.ensures)
     (record { done = c.loop-done.done; over = c.is_over-2.result }) i.1 i.2 c.is_over-2.ensures i.0
-    (elim c.loop-done-test.branch [ then-loop-done-test+else-not-is-over w ↦ inl (c.is_over-2.ensures ∙ sym w.if-not-is_over.ensures) | else-loop-done-test w ↦ inr w.loop-done-test.false ])
+    (elim c.loop-done-test.branch [ then-loop-done-test+else-not-is_over w ↦ inl (c.is_over-2.ensures ∙ sym w.if-not-is_over.ensures) | else-loop-done-test w ↦ inr w.loop-done-test.false ])
     (omega (arith, c.if-budget-eq0.false)) (omega (arith, c.if-budget-self.false)) i.3

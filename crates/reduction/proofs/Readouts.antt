@@ -28,7 +28,7 @@ use Rattle.follower.specs.Fractions.{fraction_reduced}
 use Rattle.frame.specs.Fits.{Fit}
 use Rattle.frame.specs.declared.reduction.Reduction.{Reduction}
 use Rattle.reduction.specs.Followers.{Tables, first_tables, next_tables}
-use Rattle.reduction.specs.Results.{state_at, ResultOf, Right, Along, fitting, scaled}
+use Rattle.reduction.specs.Results.{state_at, ResultOf, RightResult, Along, fitting, scaled}
 
 pub some_same : {X : Type 0} {x y : X} → ◌≡◌ {A = Option X} (Some x) (Some y) → x ≡ y
 some_same e = cc
@@ -150,7 +150,7 @@ module _ (p : AdmittedPair) (k : ℕ) (m : Meaning) (c : Option CofactorRows) (t
     ratio = ap Some same-q ∙ sym j ∙ ap read_out h.ratio;
   }
 
-  pub right : (n : Reduction) → ResultOf p k n → Right p n
+  pub right : (n : Reduction) → ResultOf p k n → RightResult p n
   right n r = record {
     greatest = rw r.g greatest_there;
     bezout = rw r.g (cofactors_right (a_of m) (record { u = n.u; v = n.v }) (λ i. a_of m) (ap₂ cofactors_at (ap a_of h.stands) h.cofactors ∙ sym r.cofactors)).0;
@@ -176,5 +176,5 @@ along_finished p r m cs t f slice both =
     record { running = f.need.before; engine = f.stands; table = both ∙ ap (λ (l : List Command). table_at {T = Tables} first_tables next_tables p (length l)) slice }
 
 -- the result of a pair is right
-pub result_right : (p : AdmittedPair) (k : ℕ) (n : Reduction) → Need whole (start_of p) k → ResultOf p k n → Right p n
+pub result_right : (p : AdmittedPair) (k : ℕ) (n : Reduction) → Need whole (start_of p) k → ResultOf p k n → RightResult p n
 result_right p k n need r = right p k (held (order_of p) (state_at p k)) (table_at cofactor_first cofactor_turns p k) (table_at fraction_first fraction_turns p k) (record { need = need; stands = refl; cofactors = refl; ratio = refl }) n r

@@ -30,7 +30,7 @@ pub record ResultOf (p : AdmittedPair) (k : ℕ) (n : Reduction) : Type 0 where
   pub ratio : Some (record { numerator = n.numerator; denominator = n.denominator }) ≡ read_out (table_at fraction_first fraction_turns p k)
 
 -- g is the greatest common divisor, u and v are its cofactors, and the fraction is a/b in lowest terms.
-pub record Right (p : AdmittedPair) (n : Reduction) : Type 0 where
+pub record RightResult (p : AdmittedPair) (n : Reduction) : Type 0 where
   pub greatest : Greatest n.g p.a p.b
   pub bezout : Bezout p.a p.b n.g n.u n.v
   pub reduced : Reduced p.a p.b n.numerator n.denominator
@@ -43,7 +43,7 @@ pub record Along {T : Type 0} (first : AdmittedPair → T) (turns : T → Comman
 
 -- There is a result where b is 0, and it is right; elsewhere there is none.
 abbrev pub ReadsOut : AdmittedPair → ℕ → Option Reduction → Type 0
-ReadsOut p k (Some n) = (is_zero (state_at p k).b ≡ true) × ResultOf p k n × Right p n
+ReadsOut p k (Some n) = (is_zero (state_at p k).b ≡ true) × ResultOf p k n × RightResult p n
 ReadsOut p k None = is_zero (state_at p k).b ≡ false
 
 -- Whether each number of a result is below 2^n in size.

@@ -16,7 +16,7 @@ use Rattle.frame.specs.Writing.{Writes}
 use Rattle.frame.specs.declared.reduction.Reduction.{Reduction}
 use Rattle.frame.proofs.RoundTrips.{pair_read_back}
 use Rattle.unit.specs.Answers.{refusal, load_objection, work_answer, WorkAnswer, CollectsLeft}
-use Rattle.reduction.specs.Results.{ResultOf, Right}
+use Rattle.reduction.specs.Results.{ResultOf, RightResult}
 use Rattle.reduction.specs.Followers.{Tables}
 use Rattle.unit.specs.Standing.{Contents, empty}
 use Rattle.unit.specs.declared.unit.Worked.{Worked}
@@ -85,7 +85,7 @@ counted largest n (clear (Ok _) ∷ h) a o e = absurd (some_none (sym e))
 counted largest n (clear (Err f) ∷ h) a o e = counted largest n h a.1 o e
 
 -- ---- (b): a collect
-collect_over : (p : AdmittedPair) (need : ℕ) (n : Reduction) (before after : List ℕ) (r : Result ℕ Fault) → ResultOf p need n → Right p n → Writes (result_frame n) before r after → CollectLaw p need need before r after
+collect_over : (p : AdmittedPair) (need : ℕ) (n : Reduction) (before after : List ℕ) (r : Result ℕ Fault) → ResultOf p need n → RightResult p n → Writes (result_frame n) before r after → CollectLaw p need need before r after
 collect_over p need n before after (Ok m) result right w =
     record {
       early = λ l. absurd (omega arith);

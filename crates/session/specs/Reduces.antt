@@ -13,7 +13,7 @@ use Rattle.frame.specs.Writing.{Writes}
 use Rattle.frame.specs.declared.reduction.Reduction.{Reduction}
 use Rattle.unit.specs.Answers.{refusal, load_objection}
 use Rattle.reduction.specs.Followers.{Tables}
-use Rattle.reduction.specs.Results.{ResultOf, Right}
+use Rattle.reduction.specs.Results.{ResultOf, RightResult}
 use Rattle.unit.specs.Standing.{Contents}
 
 -- There is something against the frame, and so it is refused and nothing is written.
@@ -33,7 +33,7 @@ pub record FrameReduced (largest : ℕ) (frame before : List ℕ) (r : Result �
   pub bound : need ≤ 4 * order_of pair + 1
   pub result : Reduction
   pub of_result : ResultOf pair need result
-  pub right : Right pair result
+  pub right : RightResult pair result
   pub writes : Writes (result_frame result) before r after
 
 -- By what the unit held before: nothing, and then it holds nothing again; or a pair, which is left alone.

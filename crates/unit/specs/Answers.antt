@@ -14,7 +14,7 @@ use Rattle.frame.specs.Reading.{Reading, refused, read, reading}
 use Rattle.frame.specs.Results.{result_frame}
 use Rattle.frame.specs.Writing.{Writes}
 use Rattle.frame.specs.declared.reduction.Reduction.{Reduction}
-use Rattle.reduction.specs.Results.{ResultOf, Right}
+use Rattle.reduction.specs.Results.{ResultOf, RightResult}
 use Rattle.unit.specs.Standing.{Standing, empty, holds}
 use Rattle.unit.specs.declared.unit.Worked.{Worked}
 
@@ -80,7 +80,7 @@ worked_to (holds p k) (Err f) = holds p k
 
 -- With nothing left the frame of the result, which is right, is written where there is room; with something left it is refused.
 abbrev pub CollectsLeft : ℕ → AdmittedPair → ℕ → List ℕ → Result ℕ Fault → List ℕ → Type 0
-CollectsLeft zero p k before r after = (n : Reduction) × ResultOf p k n × Right p n × Writes (result_frame n) before r after
+CollectsLeft zero p k before r after = (n : Reduction) × ResultOf p k n × RightResult p n × Writes (result_frame n) before r after
 CollectsLeft (suc left) p k before r after = (r ≡ refusal RunNotOver) × (after ≡ before)
 
 -- A collect from a unit that holds p: what is left is the need of p less what was done.

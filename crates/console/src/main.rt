@@ -32,7 +32,7 @@ fn performed(heap: Global, calls: Vec<Call>) -> Result<Vec<Answer>, AllocError> 
     let room = Vec::with_capacity(heap, calls.len())?;
     match perform(&mut Unit::over(WordEngine::new()), calls, room) {
         Ok(answers) => Ok(answers),
-        Err(_) => unreachable(),
+        Err(_) => unreachable!(),
     }
 }
 

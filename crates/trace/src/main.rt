@@ -63,17 +63,17 @@ fn run(rt: &HostRuntime) -> anyhow::Result<()> {
     let heap = rt.alloc();
     let mut words = env::args(rt)?.skip(1);
     let Some(first) = words.next() else {
-        return Err(USAGE.into());
+        return Err(anyhow!(USAGE));
     };
     let Some(a) = words.next() else {
         let frame = bytes(heap, first.as_str())?;
         return trace(rt, read_pair(frame.as_slice()));
     };
     let Some(b) = words.next() else {
-        return Err(USAGE.into());
+        return Err(anyhow!(USAGE));
     };
     if words.next().is_some() {
-        return Err(USAGE.into());
+        return Err(anyhow!(USAGE));
     }
     let order = number(heap, first.as_str())?;
     trace(

@@ -25,20 +25,20 @@ static RESULTS: [(i64, &[u8]); 4] = [
 
 // A result can be collected again and again, and what does not fit is refused; what a collect leaves of the buffer is checked with its answer.
 #[test]
-fn buffers_of_every_length() -> Result<(), Fail> {
+fn buffers_of_every_length(rt: HostRuntime) -> Result<(), Fail> {
     let mut unit = Unit::over(WordEngine::new());
     for (order, result) in &RESULTS {
-        load_pair(&mut unit, *order, 5, 2)?;
-        check_call(&mut unit, Tried::Work(64), Outcome::Worked(4, true))?;
+        load_pair(&rt, &mut unit, *order, 5, 2)?;
+        check_call(&rt, &mut unit, Tried::Work(64), Outcome::Worked(4, true))?;
         for length in 0usize..=200 {
             let outcome = if length < result.len() {
                 TOO_SHORT
             } else {
                 Outcome::Collected(result)
             };
-            check_call(&mut unit, Tried::Collect(length), outcome)?;
+            check_call(&rt, &mut unit, Tried::Collect(length), outcome)?;
         }
-        check_call(&mut unit, Tried::Clear, Outcome::Done)?;
+        check_call(&rt, &mut unit, Tried::Clear, Outcome::Done)?;
     }
     Ok(())
 }

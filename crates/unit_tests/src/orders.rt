@@ -101,14 +101,14 @@ fn check_numbers(rt: &impl Abort, frame: &[u8], width: usize, a: i64, b: i64) ->
 
 // A pair through the unit, which is empty before and after.
 fn check_pair(rt: &impl Abort, unit: &mut WordUnit, order: u8, a: i64, b: i64) -> Result<(), Fail> {
-    load_pair(unit, i64::from(order), a, b)?;
+    load_pair(rt, unit, i64::from(order), a, b)?;
     let count = work_out(unit)?;
     let mut buffer = [0u8; 49];
     let length = unit.collect(&mut buffer)?;
     let frame = buffer.get(..length).ok_or("beyond the buffer")?;
     check_head(rt, frame, order, count, i128::from(euclid(a, b)))?;
     check_numbers(rt, frame, usize::from(order / 8).saturating_add(1), a, b)?;
-    check_call(unit, Tried::Clear, Outcome::Done)
+    check_call(rt, unit, Tried::Clear, Outcome::Done)
 }
 
 // At each order n, operands at its edges and from a fixed sequence. The stint is 4n + 1, which does a run in one work, and at last n.

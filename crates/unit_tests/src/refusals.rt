@@ -18,49 +18,53 @@ enum State {
     Over,
 }
 
-fn check_load(unit: &mut Unit<WordEngine, Followers>) -> Result<(), Fail> {
-    check_call(unit, Tried::Load(PAIR), Outcome::Loaded(3, 5, 2))
+fn check_load(rt: &impl Abort, unit: &mut Unit<WordEngine, Followers>) -> Result<(), Fail> {
+    check_call(rt, unit, Tried::Load(PAIR), Outcome::Loaded(3, 5, 2))
 }
 
 impl State {
     // A new unit, brought to this state.
-    fn unit(self) -> Result<Unit<WordEngine, Followers>, Fail> {
+    fn unit(self, rt: &impl Abort) -> Result<Unit<WordEngine, Followers>, Fail> {
         let mut unit = Unit::over(WordEngine::new());
         match self {
             State::Empty => {}
-            State::Loaded => check_load(&mut unit)?,
+            State::Loaded => check_load(rt, &mut unit)?,
             State::Middle => {
-                check_load(&mut unit)?;
-                check_call(&mut unit, Tried::Work(2), Outcome::Worked(2, false))?;
+                check_load(rt, &mut unit)?;
+                check_call(rt, &mut unit, Tried::Work(2), Outcome::Worked(2, false))?;
             }
             State::Over => {
-                check_load(&mut unit)?;
-                check_call(&mut unit, Tried::Work(4), Outcome::Worked(4, true))?;
+                check_load(rt, &mut unit)?;
+                check_call(rt, &mut unit, Tried::Work(4), Outcome::Worked(4, true))?;
             }
         }
         Ok(unit)
     }
 
     // The unit is still in this state, with the stint of a new one: it goes on from there to the result.
-    fn check_kept(self, unit: &mut Unit<WordEngine, Followers>) -> Result<(), Fail> {
-        assert_eq!(unit.most(), 64);
+    fn check_kept(
+        self,
+        rt: &impl Abort,
+        unit: &mut Unit<WordEngine, Followers>,
+    ) -> Result<(), Fail> {
+        assert_eq!(rt; unit.most(), 64);
         match self {
             State::Empty => {
-                check_call(unit, Tried::Collect(14), NOTHING)?;
-                check_load(unit)?;
-                check_call(unit, Tried::Work(64), Outcome::Worked(4, true))?;
+                check_call(rt, unit, Tried::Collect(14), NOTHING)?;
+                check_load(rt, unit)?;
+                check_call(rt, unit, Tried::Work(64), Outcome::Worked(4, true))?;
             }
             State::Loaded => {
-                check_call(unit, Tried::Collect(14), NOT_OVER)?;
-                check_call(unit, Tried::Work(64), Outcome::Worked(4, true))?;
+                check_call(rt, unit, Tried::Collect(14), NOT_OVER)?;
+                check_call(rt, unit, Tried::Work(64), Outcome::Worked(4, true))?;
             }
             State::Middle => {
-                check_call(unit, Tried::Collect(14), NOT_OVER)?;
-                check_call(unit, Tried::Work(64), Outcome::Worked(2, true))?;
+                check_call(rt, unit, Tried::Collect(14), NOT_OVER)?;
+                check_call(rt, unit, Tried::Work(64), Outcome::Worked(2, true))?;
             }
-            State::Over => check_call(unit, Tried::Work(64), IS_OVER)?,
+            State::Over => check_call(rt, unit, Tried::Work(64), IS_OVER)?,
         }
-        check_call(unit, Tried::Collect(14), Outcome::Collected(RESULT))
+        check_call(rt, unit, Tried::Collect(14), Outcome::Collected(RESULT))
     }
 }
 
@@ -68,21 +72,21 @@ impl State {
 type Outcomes = (Outcome, Outcome, Outcome, Outcome);
 
 // A unit in this state answers so, and where it refuses it is as it was.
-fn check_in(state: State, call: Tried, outcome: Outcome) -> Result<(), Fail> {
-    let mut unit = state.unit()?;
-    check_call(&mut unit, call, outcome)?;
+fn check_in(rt: &impl Abort, state: State, call: Tried, outcome: Outcome) -> Result<(), Fail> {
+    let mut unit = state.unit(rt)?;
+    check_call(rt, &mut unit, call, outcome)?;
     if let Outcome::Refused(..) = outcome {
-        state.check_kept(&mut unit)?;
+        state.check_kept(rt, &mut unit)?;
     }
     Ok(())
 }
 
-fn check_in_every_state(call: Tried, outcomes: Outcomes) -> Result<(), Fail> {
+fn check_in_every_state(rt: &impl Abort, call: Tried, outcomes: Outcomes) -> Result<(), Fail> {
     let (empty, loaded, middle, over) = outcomes;
-    check_in(State::Empty, call, empty)?;
-    check_in(State::Loaded, call, loaded)?;
-    check_in(State::Middle, call, middle)?;
-    check_in(State::Over, call, over)
+    check_in(rt, State::Empty, call, empty)?;
+    check_in(rt, State::Loaded, call, loaded)?;
+    check_in(rt, State::Middle, call, middle)?;
+    check_in(rt, State::Over, call, over)
 }
 
 static CALLS: [(Tried, Outcomes); 17] = [
@@ -188,16 +192,18 @@ static FAR: [u64; 16] = [
 ];
 
 #[test]
-fn every_call_in_every_state() -> Result<(), Fail> {
+fn every_call_in_every_state(rt: HostRuntime) -> Result<(), Fail> {
     for (call, outcomes) in &CALLS {
-        check_in_every_state(*call, *outcomes)?;
+        check_in_every_state(&rt, *call, *outcomes)?;
     }
     for far in &FAR {
         check_in_every_state(
+            &rt,
             Tried::Stint(*far),
             (OUT_OF_RANGE, OUT_OF_RANGE, OUT_OF_RANGE, OUT_OF_RANGE),
         )?;
         check_in_every_state(
+            &rt,
             Tried::Work(*far),
             (NOTHING, OUT_OF_RANGE, OUT_OF_RANGE, IS_OVER),
         )?;
@@ -250,19 +256,20 @@ static FRAMES: [(&[u8], u8, usize); 24] = [
 fn check_frames<E: Engine>(rt: &impl Abort, unit: &mut Unit<E, Followers>) -> Result<(), Fail> {
     for (frame, number, place) in &FRAMES {
         check_call(
+            rt,
             unit,
             Tried::Load(frame),
             Outcome::Refused(*number, Layer::Frame, *place),
         )?;
         assert!(rt; unit.is_empty());
     }
-    check_call(unit, Tried::Load(PAIR), Outcome::Loaded(3, 5, 2))?;
+    check_call(rt, unit, Tried::Load(PAIR), Outcome::Loaded(3, 5, 2))?;
     for (frame, _, _) in &FRAMES {
-        check_call(unit, Tried::Load(frame), HELD)?;
+        check_call(rt, unit, Tried::Load(frame), HELD)?;
     }
-    check_call(unit, Tried::Work(64), Outcome::Worked(4, true))?;
-    check_call(unit, Tried::Collect(14), Outcome::Collected(RESULT))?;
-    check_call(unit, Tried::Clear, Outcome::Done)
+    check_call(rt, unit, Tried::Work(64), Outcome::Worked(4, true))?;
+    check_call(rt, unit, Tried::Collect(14), Outcome::Collected(RESULT))?;
+    check_call(rt, unit, Tried::Clear, Outcome::Done)
 }
 
 #[test]
@@ -313,13 +320,19 @@ static CAPPED: [(Tried, Outcome); 22] = [
     ),
 ];
 
-fn check_capped<E: Engine>(unit: &mut Unit<E, Followers>) -> Result<(), Fail> {
-    check_calls(unit, &CAPPED)
+fn check_capped<E: Engine>(rt: &impl Abort, unit: &mut Unit<E, Followers>) -> Result<(), Fail> {
+    check_calls(rt, unit, &CAPPED)
 }
 
 #[test]
-fn orders_above_the_engines_largest() -> Result<(), Fail> {
-    check_capped(&mut Unit::over(Capped::over(WordEngine::new())))?;
-    check_capped(&mut Unit::over(Relay::over(Capped::over(WordEngine::new()))))?;
-    check_capped(&mut Unit::over(Capped::over(Relay::over(WordEngine::new()))))
+fn orders_above_the_engines_largest(rt: HostRuntime) -> Result<(), Fail> {
+    check_capped(&rt, &mut Unit::over(Capped::over(WordEngine::new())))?;
+    check_capped(
+        &rt,
+        &mut Unit::over(Relay::over(Capped::over(WordEngine::new()))),
+    )?;
+    check_capped(
+        &rt,
+        &mut Unit::over(Capped::over(Relay::over(WordEngine::new()))),
+    )
 }

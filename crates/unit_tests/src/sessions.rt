@@ -90,14 +90,14 @@ fn check_answer(
     answer: Answer,
 ) -> Result<(), Fail> {
     match (call, answer) {
-        (Tried::Load(_), Answer::Loaded(answer)) => outcome.check_loaded(answer),
-        (Tried::Stint(_), Answer::Stinted(answer)) => outcome.check_done(answer),
-        (Tried::Work(_), Answer::Worked(answer)) => outcome.check_worked(answer),
+        (Tried::Load(_), Answer::Loaded(answer)) => outcome.check_loaded(rt, answer),
+        (Tried::Stint(_), Answer::Stinted(answer)) => outcome.check_done(rt, answer),
+        (Tried::Work(_), Answer::Worked(answer)) => outcome.check_worked(rt, answer),
         (Tried::Collect(length), Answer::Collected(answer, buffer)) => {
             assert_eq!(rt; buffer.len(), length);
-            outcome.check_collected(answer, buffer.as_slice())
+            outcome.check_collected(rt, answer, buffer.as_slice())
         }
-        (Tried::Clear, Answer::Cleared(answer)) => outcome.check_done(answer),
+        (Tried::Clear, Answer::Cleared(answer)) => outcome.check_done(rt, answer),
         _ => Err(Fail::new("the answer of another call")),
     }
 }
@@ -128,7 +128,7 @@ fn check_unperformed<E: Engine>(
         Err(given) => {
             assert_eq!(rt; given, why);
             Ok(())
-        },
+        }
     }
 }
 
@@ -143,7 +143,7 @@ fn check_list<E: Engine>(
     check_answers(rt, perform(unit, list(heap)?, room(heap)?)?)?;
     check_unperformed(rt, unit, list(heap)?, room(heap)?, Unperformed::PairHeld)?;
     check_unperformed(rt, unit, Vec::new(heap), room(heap)?, Unperformed::PairHeld)?;
-    check_calls(unit, &AFTER)
+    check_calls(rt, unit, &AFTER)
 }
 
 // A list finds the stint that the one before it left, so the units are new.

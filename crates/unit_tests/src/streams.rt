@@ -19,7 +19,7 @@ fn check_frame<E: Engine>(
     outcome: Outcome,
 ) -> Result<(), Fail> {
     let mut buffer = [FILLING; 60];
-    outcome.check_collected(reduce_frame(unit, frame, &mut buffer), &buffer)?;
+    outcome.check_collected(rt, reduce_frame(unit, frame, &mut buffer), &buffer)?;
     assert!(rt; unit.is_empty());
     Ok(())
 }
@@ -127,22 +127,24 @@ fn inputs_of_many_frames(rt: HostRuntime) -> Result<(), Fail> {
         rt.alloc(),
         &mut Unit::over(Relay::over(WordEngine::new())),
     )?;
-    check_call(&mut unit, Tried::Stint(1), Outcome::Done)?;
+    check_call(&rt, &mut unit, Tried::Stint(1), Outcome::Done)?;
     check_inputs(&rt, rt.alloc(), &mut unit)?;
     let mut short = [FILLING; 13];
-    TOO_SHORT.check_collected(reduce_frame(&mut unit, PAIR, &mut short), &short)?;
+    TOO_SHORT.check_collected(&rt, reduce_frame(&mut unit, PAIR, &mut short), &short)?;
     assert!(rt; unit.is_empty());
     check_call(
+        &rt,
         &mut unit,
         Tried::Load(EVEN_PAIR),
         Outcome::Loaded(5, 12, 18),
     )?;
-    HELD.check_collected(reduce_frame(&mut unit, PAIR, &mut short), &short)?;
-    check_call(&mut unit, Tried::Work(1), Outcome::Worked(1, false))?;
-    HELD.check_collected(reduce_frame(&mut unit, &[], &mut short), &short)?;
-    check_call(&mut unit, Tried::Stint(4), Outcome::Done)?;
-    check_call(&mut unit, Tried::Work(4), Outcome::Worked(4, true))?;
+    HELD.check_collected(&rt, reduce_frame(&mut unit, PAIR, &mut short), &short)?;
+    check_call(&rt, &mut unit, Tried::Work(1), Outcome::Worked(1, false))?;
+    HELD.check_collected(&rt, reduce_frame(&mut unit, &[], &mut short), &short)?;
+    check_call(&rt, &mut unit, Tried::Stint(4), Outcome::Done)?;
+    check_call(&rt, &mut unit, Tried::Work(4), Outcome::Worked(4, true))?;
     check_call(
+        &rt,
         &mut unit,
         Tried::Collect(14),
         Outcome::Collected(EVEN_RESULT),

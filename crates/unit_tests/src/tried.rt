@@ -4,6 +4,7 @@ use frame::pair::write_pair;
 use rule::fault::{Fault, Layer};
 use rule::order::Order;
 use rule::pair::AdmittedPair;
+use std::process::Abort;
 use std::test::*;
 use unit::unit::{Followers, Unit, Worked};
 
@@ -55,72 +56,81 @@ pub const NOT_OVER: Outcome = Outcome::Refused(23, Layer::Unit, 0);
 pub const IS_OVER: Outcome = Outcome::Refused(24, Layer::Unit, 0);
 
 // No byte of this part of a buffer was written.
-fn check_untouched(part: &[u8]) -> Result<(), Fail> {
+fn check_untouched(rt: &impl Abort, part: &[u8]) {
     for byte in part {
-        assert_eq!(*byte, FILLING);
+        assert_eq!(rt; *byte, FILLING);
     }
-    Ok(())
 }
 
 impl Outcome {
-    pub fn check_refused(self, fault: Fault) -> Result<(), Fail> {
+    pub fn check_refused(self, rt: &impl Abort, fault: Fault) -> Result<(), Fail> {
         let Outcome::Refused(number, layer, place) = self else {
             return Err(Fail::new(fault.reason.number()));
         };
-        assert_eq!(fault.reason.number(), number);
-        assert_eq!(fault.layer, layer);
-        assert_eq!(fault.place, place);
+        assert_eq!(rt; fault.reason.number(), number);
+        assert_eq!(rt; fault.layer, layer);
+        assert_eq!(rt; fault.place, place);
         Ok(())
     }
 
-    pub fn check_loaded(self, answer: Result<AdmittedPair, Fault>) -> Result<(), Fail> {
+    pub fn check_loaded(
+        self,
+        rt: &impl Abort,
+        answer: Result<AdmittedPair, Fault>,
+    ) -> Result<(), Fail> {
         match answer {
-            Err(fault) => self.check_refused(fault),
+            Err(fault) => self.check_refused(rt, fault),
             Ok(pair) => {
                 let Outcome::Loaded(order, a, b) = self else {
                     return Err(Fail::new("loaded"));
                 };
-                assert_eq!(pair.order().value(), order);
-                assert_eq!((pair.a(), pair.b()), (a, b));
+                assert_eq!(rt; pair.order().value(), order);
+                assert_eq!(rt; (pair.a(), pair.b()), (a, b));
                 Ok(())
             }
         }
     }
 
-    pub fn check_worked(self, answer: Result<Worked, Fault>) -> Result<(), Fail> {
+    pub fn check_worked(self, rt: &impl Abort, answer: Result<Worked, Fault>) -> Result<(), Fail> {
         match answer {
-            Err(fault) => self.check_refused(fault),
+            Err(fault) => self.check_refused(rt, fault),
             Ok(worked) => {
                 let Outcome::Worked(done, over) = self else {
                     return Err(Fail::new("worked"));
                 };
-                assert_eq!(worked, Worked { done, over });
+                assert_eq!(rt; worked, Worked { done, over });
                 Ok(())
             }
         }
     }
 
     // The buffer was filled before: all that is not the frame is as it was.
-    pub fn check_collected(self, answer: Result<usize, Fault>, buffer: &[u8]) -> Result<(), Fail> {
+    pub fn check_collected(
+        self,
+        rt: &impl Abort,
+        answer: Result<usize, Fault>,
+        buffer: &[u8],
+    ) -> Result<(), Fail> {
         match answer {
             Err(fault) => {
-                check_untouched(buffer)?;
-                self.check_refused(fault)
+                check_untouched(rt, buffer);
+                self.check_refused(rt, fault)
             }
             Ok(length) => {
                 let Outcome::Collected(frame) = self else {
                     return Err(Fail::new("collected"));
                 };
-                assert_eq!(length, frame.len());
-                assert!(buffer.starts_with(frame));
-                check_untouched(buffer.get(length..).ok_or("beyond the buffer")?)
+                assert_eq!(rt; length, frame.len());
+                assert!(rt; buffer.starts_with(frame));
+                check_untouched(rt, buffer.get(length..).ok_or("beyond the buffer")?);
+                Ok(())
             }
         }
     }
 
-    pub fn check_done(self, answer: Result<(), Fault>) -> Result<(), Fail> {
+    pub fn check_done(self, rt: &impl Abort, answer: Result<(), Fault>) -> Result<(), Fail> {
         match (answer, self) {
-            (Err(fault), _) => self.check_refused(fault),
+            (Err(fault), _) => self.check_refused(rt, fault),
             (Ok(()), Outcome::Done) => Ok(()),
             (Ok(()), _) => Err(Fail::new("done")),
         }
@@ -129,37 +139,40 @@ impl Outcome {
 
 // Makes the call, and holds its answer to the outcome.
 pub fn check_call<E: Engine>(
+    rt: &impl Abort,
     unit: &mut Unit<E, Followers>,
     call: Tried,
     outcome: Outcome,
 ) -> Result<(), Fail> {
     match call {
-        Tried::Load(frame) => outcome.check_loaded(unit.load(frame)),
-        Tried::Stint(most) => outcome.check_done(unit.stint(most)),
-        Tried::Work(budget) => outcome.check_worked(unit.work(budget)),
+        Tried::Load(frame) => outcome.check_loaded(rt, unit.load(frame)),
+        Tried::Stint(most) => outcome.check_done(rt, unit.stint(most)),
+        Tried::Work(budget) => outcome.check_worked(rt, unit.work(budget)),
         Tried::Collect(length) => {
             let mut room = [FILLING; 256];
             let buffer = room.get_mut(..length).ok_or("a buffer above 256")?;
             let answer = unit.collect(buffer);
-            outcome.check_collected(answer, buffer)
+            outcome.check_collected(rt, answer, buffer)
         }
-        Tried::Clear => outcome.check_done(unit.clear()),
+        Tried::Clear => outcome.check_done(rt, unit.clear()),
     }
 }
 
 // The same of several calls, one after the other.
 pub fn check_calls<E: Engine>(
+    rt: &impl Abort,
     unit: &mut Unit<E, Followers>,
     calls: &[(Tried, Outcome)],
 ) -> Result<(), Fail> {
     for (call, outcome) in calls {
-        check_call(unit, *call, *outcome)?;
+        check_call(rt, unit, *call, *outcome)?;
     }
     Ok(())
 }
 
 // Loads the frame of a pair.
 pub fn load_pair<E: Engine>(
+    rt: &impl Abort,
     unit: &mut Unit<E, Followers>,
     order: i64,
     a: i64,
@@ -169,5 +182,5 @@ pub fn load_pair<E: Engine>(
     let mut buffer = [0u8; 21];
     let length = write_pair(pair, &mut buffer)?;
     let frame = buffer.get(..length).ok_or("beyond the buffer")?;
-    Outcome::Loaded(u16::try_from(order)?, a, b).check_loaded(unit.load(frame))
+    Outcome::Loaded(u16::try_from(order)?, a, b).check_loaded(rt, unit.load(frame))
 }

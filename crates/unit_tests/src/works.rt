@@ -53,20 +53,26 @@ impl Cut {
 }
 
 // Works the run of the pair that was loaded to its end, of which the count is known.
-fn work_out<E: Engine>(unit: &mut Unit<E, Followers>, cut: Cut, count: u64) -> Result<(), Fail> {
+fn work_out<E: Engine>(
+    rt: &impl Abort,
+    unit: &mut Unit<E, Followers>,
+    cut: Cut,
+    count: u64,
+) -> Result<(), Fail> {
     let mut sum = 0u64;
     for i in 0u64..226 {
-        check_call(unit, Tried::Collect(49), NOT_OVER)?;
+        check_call(rt, unit, Tried::Collect(49), NOT_OVER)?;
         let budget = cut.budget(i);
         let done = budget.min(count.wrapping_sub(sum));
         sum = sum.wrapping_add(done);
         check_call(
+            rt,
             unit,
             Tried::Work(budget),
             Outcome::Worked(done, sum == count),
         )?;
         if sum == count {
-            return check_call(unit, Tried::Work(budget), IS_OVER);
+            return check_call(rt, unit, Tried::Work(budget), IS_OVER);
         }
     }
     Err(Fail::new("not over"))
@@ -81,12 +87,12 @@ fn result_of<E: Engine>(
 ) -> Result<[u8; 49], Fail> {
     let (order, a, b, count) = run;
     unit.stint(cut.stint())?;
-    load_pair(unit, order, a, b)?;
-    work_out(unit, cut, count)?;
+    load_pair(rt, unit, order, a, b)?;
+    work_out(rt, unit, cut, count)?;
     let mut frame = [0u8; 49];
     unit.collect(&mut frame)?;
     assert_eq!(rt; u64::from(u16::from_be_bytes([frame[5], frame[6]])), count);
-    check_call(unit, Tried::Clear, Outcome::Done)?;
+    check_call(rt, unit, Tried::Clear, Outcome::Done)?;
     Ok(frame)
 }
 
@@ -151,12 +157,12 @@ static LIFE: [(Tried, Outcome); 38] = [
 fn one_unit_for_many_pairs(rt: HostRuntime) -> Result<(), Fail> {
     let mut unit = Unit::over(WordEngine::new());
     assert_eq!(rt; unit.most(), 64);
-    check_calls(&mut unit, &LIFE)?;
+    check_calls(&rt, &mut unit, &LIFE)?;
     assert_eq!(rt; unit.most(), 225);
     let mut long = Unit::over(WordEngine::new());
-    load_pair(&mut long, 56, 0xc0_0000_0000_0001, 0xbf_ffff_ffff_ffff)?;
-    check_call(&mut long, Tried::Work(65), OUT_OF_RANGE)?;
-    check_call(&mut long, Tried::Work(64), Outcome::Worked(64, false))?;
-    check_call(&mut long, Tried::Work(64), Outcome::Worked(64, false))?;
-    check_call(&mut long, Tried::Work(64), Outcome::Worked(37, true))
+    load_pair(&rt, &mut long, 56, 0xc0_0000_0000_0001, 0xbf_ffff_ffff_ffff)?;
+    check_call(&rt, &mut long, Tried::Work(65), OUT_OF_RANGE)?;
+    check_call(&rt, &mut long, Tried::Work(64), Outcome::Worked(64, false))?;
+    check_call(&rt, &mut long, Tried::Work(64), Outcome::Worked(64, false))?;
+    check_call(&rt, &mut long, Tried::Work(64), Outcome::Worked(37, true))
 }

@@ -12,10 +12,9 @@ use Rattle.rule.specs.declared.pair.AdmittedPair.{AdmittedPair}
 use Rattle.rule.proofs.Fuel.{need_unique}
 use Rattle.rule.proofs.Whole.{need_bounded}
 use Rattle.frame.specs.Results.{result_frame}
-use Rattle.frame.specs.Writing.{Writes}
 use Rattle.frame.specs.declared.reduction.Reduction.{Reduction}
 use Rattle.frame.proofs.RoundTrips.{pair_read_back}
-use Rattle.unit.specs.Answers.{refusal, load_objection, work_answer, WorkAnswer, CollectsLeft}
+use Rattle.unit.specs.Answers.{refusal, load_objection, work_answer, WorkAnswer, CollectsLeft, WritesIfRoom}
 use Rattle.reduction.specs.Results.{ResultOf, RightResult}
 use Rattle.reduction.specs.Followers.{Tables}
 use Rattle.unit.specs.Standing.{Contents, empty}
@@ -85,7 +84,7 @@ counted largest n (clear (Ok _) ∷ h) a o e = absurd (some_none (sym e))
 counted largest n (clear (Err f) ∷ h) a o e = counted largest n h a.1 o e
 
 -- ---- (b): a collect
-collect_over : (p : AdmittedPair) (need : ℕ) (n : Reduction) (before after : List ℕ) (r : Result ℕ Fault) → ResultOf p need n → RightResult p n → Writes (result_frame n) before r after → CollectLaw p need need before r after
+collect_over : (p : AdmittedPair) (need : ℕ) (n : Reduction) (before after : List ℕ) (r : Result ℕ Fault) → ResultOf p need n → RightResult p n → WritesIfRoom (result_frame n) before r after → CollectLaw p need need before r after
 collect_over p need n before after (Ok m) result right w =
     record {
       early = λ l. absurd (omega arith);

@@ -140,7 +140,7 @@ within_buffer largest c c' frame before after m h = by c.pair h
   where
     written : FrameRefused largest frame before (Ok m) after ⊎ FrameReduced largest frame before (Ok m) after → m ≤ length after
     written (inl f) = absurd (ok_err f.answer)
-    written (inr f) = omega (arith, f.writes.0, ap length f.writes.1 ∙ length-append (result_frame f.result) (drop (length (result_frame f.result)) before))
+    written (inr f) = omega (arith, f.writes.1.0, ap length f.writes.1.1 ∙ length-append (result_frame f.result) (drop (length (result_frame f.result)) before))
 
     by : (o : Option AdmittedPair) → ReducesBy largest o c frame before (Ok m) after c' → m ≤ length after
     by None h = written h.2

@@ -8,9 +8,8 @@ use Rattle.rule.specs.declared.fault.Reason.TheVariants.{RunNotOver}
 use Rattle.rule.specs.declared.pair.AdmittedPair.{AdmittedPair}
 use Rattle.frame.specs.Frames.{frame_of}
 use Rattle.frame.specs.Results.{result_frame}
-use Rattle.frame.specs.Writing.{Writes}
 use Rattle.frame.specs.declared.reduction.Reduction.{Reduction}
-use Rattle.unit.specs.Answers.{refusal, LoadAnswer, stint_answer, WorkAnswer, CollectAnswer, clear_answer}
+use Rattle.unit.specs.Answers.{refusal, LoadAnswer, stint_answer, WorkAnswer, WritesIfRoom, CollectAnswer, clear_answer}
 use Rattle.reduction.specs.Results.{ResultOf, RightResult}
 use Rattle.unit.specs.Standing.{Standing, holds}
 use Rattle.session.specs.History.{Event, load, stint, work, collect, clear, WorkDone, Held, sum_of, held_in, stint_in, standing}
@@ -54,7 +53,7 @@ pub record Counted (o : Held) : Type 0 where
 -- A collect that is not refused wrote the frame of the pair's result, which is right; the count in it is the sum, and the need. One that is
 -- refused wrote nothing.
 abbrev pub CollectedRight : AdmittedPair → ℕ → ℕ → List ℕ → Result ℕ Fault → List ℕ → Type 0
-CollectedRight p need sum before (Ok m) after = (n : Reduction) × ResultOf p need n × RightResult p n × (n.count ≡ sum) × Writes (result_frame n) before (Ok m) after
+CollectedRight p need sum before (Ok m) after = (n : Reduction) × ResultOf p need n × RightResult p n × (n.count ≡ sum) × WritesIfRoom (result_frame n) before (Ok m) after
 CollectedRight p need sum before (Err f) after = after ≡ before
 
 -- (b) A collect is refused by 23 exactly where the sum is below the need, and gives what it should where it is not refused.

@@ -9,9 +9,8 @@ use Rattle.rule.specs.declared.pair.AdmittedPair.{AdmittedPair}
 use Rattle.frame.specs.Frames.{frame_of}
 use Rattle.frame.specs.Reading.{reading}
 use Rattle.frame.specs.Results.{result_frame}
-use Rattle.frame.specs.Writing.{Writes}
 use Rattle.frame.specs.declared.reduction.Reduction.{Reduction}
-use Rattle.unit.specs.Answers.{refusal, load_objection}
+use Rattle.unit.specs.Answers.{refusal, load_objection, WritesIfRoom}
 use Rattle.reduction.specs.Followers.{Tables}
 use Rattle.reduction.specs.Results.{ResultOf, RightResult}
 use Rattle.unit.specs.Standing.{Contents}
@@ -34,7 +33,7 @@ pub record FrameReduced (largest : ℕ) (frame before : List ℕ) (r : Result �
   pub result : Reduction
   pub of_result : ResultOf pair need result
   pub right : RightResult pair result
-  pub writes : Writes (result_frame result) before r after
+  pub writes : WritesIfRoom (result_frame result) before r after
 
 -- By what the unit held before: nothing, and then it holds nothing again; or a pair, which is left alone.
 abbrev pub ReducesBy : ℕ → Option AdmittedPair → Contents Tables → List ℕ → List ℕ → Result ℕ Fault → List ℕ → Contents Tables → Type 0

@@ -1,5 +1,5 @@
 -- What a unit that holds a pair gives of its result.
-use Rattle.std.proofs.Common.{◌≡◌, ℕ, zero, suc, ◌+◌, List, Some, None, Option, Result, sym, ◌∙◌, subst, arith}
+use Rattle.std.proofs.Common.{◌≡◌, ℕ, zero, suc, ◌+◌, List, length, drop, Some, None, Ok, Err, Option, Result, sym, ap, ◌∙◌, subst, arith, length-append}
 use Rattle.rule.specs.Pairs.{start_of}
 use Rattle.rule.specs.Rule.{Running, Need}
 use Rattle.rule.specs.Whole.{whole}
@@ -9,16 +9,21 @@ use Rattle.rule.specs.declared.pair.AdmittedPair.{AdmittedPair}
 use Rattle.frame.specs.Results.{result_frame}
 use Rattle.frame.specs.Writing.{Writes}
 use Rattle.frame.specs.declared.reduction.Reduction.{Reduction}
-use Rattle.unit.specs.Answers.{refusal, CollectsFrom, CollectAnswer}
+use Rattle.unit.specs.Answers.{refusal, WritesIfRoom, CollectsFrom, CollectAnswer}
 use Rattle.reduction.specs.Followers.{Tables, first_tables, next_tables}
 use Rattle.reduction.specs.Results.{Along, ReadsOut}
 use Rattle.unit.specs.Standing.{Contents, Standing, empty, holds, Stands}
 use Rattle.reduction.proofs.Readouts.{some_same, some_none}
 use Rattle.unit.proofs.Works.{left_of, left_some}
 
+-- a buffer keeps its length, so that what was written had room in it
+pub in_room : (frame before after : List ℕ) (r : Result ℕ Fault) → length after ≡ length before → Writes frame before r after → WritesIfRoom frame before r after
+in_room frame before after (Ok m) e w = (omega (arith, e, ap length w.1 ∙ length-append frame (drop (length frame) before)), w)
+in_room frame before after (Err f) e w = w
+
 -- what collect does with a result, or without one
 abbrev pub Written : Option Reduction → List ℕ → Result ℕ Fault → List ℕ → Type 0
-Written (Some n) before r after = Writes (result_frame n) before r after
+Written (Some n) before r after = WritesIfRoom (result_frame n) before r after
 Written None before r after = (r ≡ refusal RunNotOver) × (after ≡ before)
 
 collects_from : (p : AdmittedPair) (k : ℕ) (o : Option Reduction) (before after : List ℕ) (r : Result ℕ Fault) → Running whole (start_of p) k → ReadsOut p k o → Written o before r after → CollectsFrom p k before r after

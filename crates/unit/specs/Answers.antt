@@ -1,5 +1,5 @@
 -- What each call of a unit answers, by where the unit stands, and where it stands then.
-use Rattle.std.specs.Prelude.{◌≡◌, ℕ, zero, suc, ◌+◌, ◌≤◌, min, cond, ◌&&◌, List, Some, None, Ok, Err, Option, Result, ◌==◌, nat_le}
+use Rattle.std.specs.Prelude.{◌≡◌, ℕ, zero, suc, ◌+◌, ◌≤◌, min, cond, ◌&&◌, List, length, Some, None, Ok, Err, Option, Result, ◌==◌, nat_le}
 use Rattle.rule.specs.Pairs.{order_of, start_of}
 use Rattle.rule.specs.Refusal.{fault}
 use Rattle.rule.specs.Rule.{Need}
@@ -78,9 +78,14 @@ worked_to (holds p k) (Err f) = holds p k
 
 -- ---- collect
 
+-- A frame is written where the buffer has room for it, and refused elsewhere.
+abbrev pub WritesIfRoom : List ℕ → List ℕ → Result ℕ Fault → List ℕ → Type 0
+WritesIfRoom frame before (Ok m) after = (length frame ≤ length before) × Writes frame before (Ok m) after
+WritesIfRoom frame before (Err f) after = Writes frame before (Err f) after
+
 -- With nothing left the frame of the result, which is right, is written where there is room; with something left it is refused.
 abbrev pub CollectsLeft : ℕ → AdmittedPair → ℕ → List ℕ → Result ℕ Fault → List ℕ → Type 0
-CollectsLeft zero p k before r after = (n : Reduction) × ResultOf p k n × RightResult p n × Writes (result_frame n) before r after
+CollectsLeft zero p k before r after = (n : Reduction) × ResultOf p k n × RightResult p n × WritesIfRoom (result_frame n) before r after
 CollectsLeft (suc left) p k before r after = (r ≡ refusal RunNotOver) × (after ≡ before)
 
 -- A collect from a unit that holds p: what is left is the need of p less what was done.

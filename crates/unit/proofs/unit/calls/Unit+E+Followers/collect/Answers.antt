@@ -1,7 +1,8 @@
-use Rattle.std.proofs.Common.{Some, None, Err, refl, ap}
+use Rattle.std.proofs.Common.{Some, None, Err, refl, ap, rules}
 use Rattle.reduction.specs.Followers.{tables_of}
 use Rattle.unit.specs.Standing.{contents}
-use Rattle.unit.proofs.Collects.{collects}
+use Rattle.frame.specs.Results.{result_frame}
+use Rattle.unit.proofs.Collects.{collects, in_room}
 use Rattle.unit.proofs.unit.calls.Unit+E+Followers.collect.Goals as goal
 
 pub returns-in_default-read_out : goal.returns-in_default-read_out
@@ -10,4 +11,4 @@ returns-in_default-read_out g c = λ s.
 
 pub returns : goal.returns
 returns g c = λ s.
-    collects s (contents g.E.Engine.meaning tables_of c.args.self.now) c.in-Some.pair (Some c.in-Some-read_out.reduction) _ _ _ c.in-Some.is c.in-Some-read_out.ensures c.write_result.ensures
+    collects s (contents g.E.Engine.meaning tables_of c.args.self.now) c.in-Some.pair (Some c.in-Some-read_out.reduction) _ _ _ c.in-Some.is c.in-Some-read_out.ensures (in_room (result_frame c.in-Some-read_out.reduction) c.args.buffer.now _ _ (search rules) c.write_result.ensures)

@@ -1,5 +1,5 @@
 -- What an engine and followers read out at the end of a run is right, and fits.
-use Rattle.std.proofs.Common.{◌≡◌, ℕ, ◌*◌, ◌^◌, ◌<◌, ◌≤◌, Bool, true, false, cond, ltb, List, length, ℤ, nat_abs, Some, None, Option, sym, refl, ap, ◌∙◌, subst, ap₂, arith, pow_mono}
+use Rattle.std.proofs.Common.{◌≡◌, ℕ, ◌*◌, ◌^◌, ◌<◌, ◌≤◌, Bool, true, false, cond, ltb, ℤ, nat_abs, Some, None, Option, sym, ap, ◌∙◌, subst, ap₂, arith, pow_mono}
 use Rattle.std.proofs.lemmas.Bool.{both_ways, ltb-true, lt-ltb, and_parts, and_from, cond-true}
 use Rattle.rule.specs.Divisor.{Greatest, divisor}
 use Rattle.rule.specs.Pairs.{order_of, start_of}
@@ -10,10 +10,7 @@ use Rattle.rule.specs.declared.pair.AdmittedPair.{AdmittedPair}
 use Rattle.rule.proofs.Divisor.{divisor_greatest, greatest_most}
 use Rattle.rule.proofs.Fuel.{count-after}
 use Rattle.rule.proofs.Whole.{run_narrow}
-use Rattle.engine.specs.Listed.{listed}
 use Rattle.engine.specs.Meaning.{Meaning, held, is_over, a_of, twos_of, count_of}
-use Rattle.engine.specs.Runs.{spent, Finished}
-use Rattle.engine.specs.declared.run.Run.{Run}
 use Rattle.follower.specs.Following.{table_at}
 use Rattle.follower.specs.Cofactor.{CofactorRows, cofactor_first, cofactor_turns}
 use Rattle.follower.specs.Fraction.{FractionRows, fraction_first, fraction_turns, Reduced, TableReduced}
@@ -27,7 +24,7 @@ use Rattle.follower.proofs.Readout.{bezout, cofactors_fit}
 use Rattle.follower.specs.Fractions.{fraction_reduced}
 use Rattle.frame.specs.Fits.{Fit}
 use Rattle.frame.specs.declared.reduction.Reduction.{Reduction}
-use Rattle.reduction.specs.Followers.{Tables, first_tables, next_tables}
+use Rattle.reduction.specs.Followers.{first_tables, next_tables}
 use Rattle.reduction.specs.Results.{state_at, ResultOf, RightResult, Along, fitting, scaled}
 
 pub some_same : {X : Type 0} {x y : X} → ◌≡◌ {A = Option X} (Some x) (Some y) → x ≡ y
@@ -170,11 +167,3 @@ ended p k m c t a e =
       cofactors = ap (λ x. x.0) tables;
       ratio = ap (λ x. x.1) tables;
     }
-
-pub along_finished : (p : AdmittedPair) (r : Run) (m : Meaning) (cs : List Command) (t : Tables) → Finished p r m → cs ≡ listed r.commands → t ≡ table_at {T = Tables} first_tables next_tables p (length cs) → Along first_tables next_tables p (spent r) m t
-along_finished p r m cs t f slice both =
-    record { running = f.need.before; engine = f.stands; table = both ∙ ap (λ (l : List Command). table_at {T = Tables} first_tables next_tables p (length l)) slice }
-
--- the result of a pair is right
-pub result_right : (p : AdmittedPair) (k : ℕ) (n : Reduction) → Need whole (start_of p) k → ResultOf p k n → RightResult p n
-result_right p k n need r = right p k (held (order_of p) (state_at p k)) (table_at cofactor_first cofactor_turns p k) (table_at fraction_first fraction_turns p k) (record { need = need; stands = refl; cofactors = refl; ratio = refl }) n r

@@ -1,5 +1,5 @@
 -- A pair that a unit works on to its end.
-use Rattle.std.proofs.Common.{◌≡◌, ℕ, zero, suc, ◌+◌, ◌-◌, ◌<◌, ◌≤◌, true, false, leb, ◌⊎◌, List, length, drop, Some, None, Ok, Err, Option, Result, sym, refl, ap, ◌∙◌, subst, inl, inr, arith, length-append}
+use Rattle.std.proofs.Common.{◌≡◌, ℕ, zero, suc, ◌+◌, ◌-◌, ◌<◌, ◌≤◌, true, false, leb, ◌⊎◌, List, None, Ok, Err, Result, sym, refl, ap, ◌∙◌, subst, inl, inr, arith}
 use Rattle.std.proofs.lemmas.Bool.{cases_Bool, leb-true, leb-false, le-leb, ne_eqb, and_from, cond-true, cond-false}
 use Rattle.rule.specs.Pairs.{order_of, start_of}
 use Rattle.rule.specs.Rule.{after, Need}
@@ -10,7 +10,6 @@ use Rattle.rule.proofs.Fuel.{need_unique}
 use Rattle.rule.proofs.Whole.{zero_yes, need_bounded}
 use Rattle.engine.specs.Meaning.{count_of}
 use Rattle.frame.specs.Frames.{frame_of}
-use Rattle.frame.specs.Results.{result_frame}
 use Rattle.unit.specs.Answers.{WorksOn, CollectsLeft}
 use Rattle.unit.specs.Calls.{Loads, Works, Collects, Clears}
 use Rattle.reduction.specs.Followers.{Tables, first_tables, next_tables}
@@ -133,15 +132,3 @@ module _ (largest : ℕ) (c c' : Contents Tables) (frame before after : List ℕ
   reduces_cleared n d u stint o collects clears =
       let l = (clears (holds o.pair o.need) o.holds).1 in
       reduces l.stands (l.stint ∙ o.stint ∙ stint) (inr (frame_reduced largest frame n d before after r o collects))
-
--- ---- what was written stands in the buffer
-pub within_buffer : (largest : ℕ) (c c' : Contents Tables) (frame before after : List ℕ) (m : ℕ) → ReducesFrame largest c frame before (Ok m) after c' → m ≤ length after
-within_buffer largest c c' frame before after m h = by c.pair h
-  where
-    written : FrameRefused largest frame before (Ok m) after ⊎ FrameReduced largest frame before (Ok m) after → m ≤ length after
-    written (inl f) = absurd (ok_err f.answer)
-    written (inr f) = omega (arith, f.writes.1.0, ap length f.writes.1.1 ∙ length-append (result_frame f.result) (drop (length (result_frame f.result)) before))
-
-    by : (o : Option AdmittedPair) → ReducesBy largest o c frame before (Ok m) after c' → m ≤ length after
-    by None h = written h.2
-    by (Some p) h = absurd (ok_err h.0)

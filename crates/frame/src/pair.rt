@@ -23,7 +23,7 @@ fn read_head(length: u16, version: u8, order: u16, filled: usize) -> Result<Orde
     if version != VERSION {
         return Err(Fault::new(Reason::WrongVersion, Layer::Frame, 2));
     }
-    let order = Order::new(i64::from(order))?;
+    let order = Order::try_from(i64::from(order))?;
     if filled != 2 * order.width() {
         return Err(Fault::new(Reason::OperandsDoNotFill, Layer::Frame, 5));
     }

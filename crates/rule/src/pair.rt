@@ -3,7 +3,7 @@ ghost use Rattle.rule.specs.Admitted.{OperandsAdmitted};
 
 use crate::order::Order;
 
-#[derive(Clone, Copy)]
+#[derive(Clone, Copy, PartialEq, Eq, Debug)]
 pub struct AdmittedPair {
     order: Order,
     a: i64,

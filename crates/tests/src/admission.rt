@@ -6,7 +6,7 @@ use std::process::Abort;
 use std::test::Fail;
 
 fn admitted(order: i64, a: i64, b: i64) -> Result<AdmittedPair, Fault> {
-    AdmittedPair::new(Order::new(order)?, a, b)
+    AdmittedPair::new(Order::try_from(order)?, a, b)
 }
 
 // The pair is refused with this number, by the frame and at this place.
@@ -32,7 +32,7 @@ fn check_refused(
 #[test]
 fn orders_from_1_to_56(rt: HostRuntime) -> Result<(), Fail> {
     for n in 1u8..=56 {
-        let order = Order::new(i64::from(n))?;
+        let order = Order::try_from(i64::from(n))?;
         assert_eq!(rt; order.value(), u16::from(n));
     }
     for n in [0, 57, 58, 65536, -1, i64::MAX, i64::MIN] {

@@ -34,7 +34,7 @@ fn check_calls<E: Engine>(rt: &impl Abort, engine: &mut E) -> Result<(), Fail> {
     );
     check_answers(rt, engine, true, false, (0, 0, 0, 0));
 
-    engine.begin(AdmittedPair::new(Order::new(3)?, 0, 6)?)?;
+    engine.begin(AdmittedPair::new(Order::try_from(3)?, 0, 6)?)?;
     check_answers(rt, engine, false, false, (0, 0, 0, 0));
     assert_eq!(rt; engine.advance()?, Command::Both);
     check_answers(rt, engine, false, false, (0, 0, 1, 1));
@@ -46,7 +46,7 @@ fn check_calls<E: Engine>(rt: &impl Abort, engine: &mut E) -> Result<(), Fail> {
     );
     check_answers(rt, engine, false, true, (3, 1, 1, 2));
 
-    engine.begin(AdmittedPair::new(Order::new(3)?, 5, 4)?)?;
+    engine.begin(AdmittedPair::new(Order::try_from(3)?, 5, 4)?)?;
     check_answers(rt, engine, false, false, (5, 0, 0, 0));
     assert_eq!(rt; engine.advance()?, Command::Shift);
     check_answers(rt, engine, false, false, (5, 1, 0, 1));
@@ -62,7 +62,7 @@ fn word_engine(rt: HostRuntime) -> Result<(), Fail> {
 #[test]
 fn engine_over_an_engine(rt: HostRuntime) -> Result<(), Fail> {
     let mut below = WordEngine::new();
-    below.begin(AdmittedPair::new(Order::new(3)?, 5, 2)?)?;
+    below.begin(AdmittedPair::new(Order::try_from(3)?, 5, 2)?)?;
     below.advance()?;
     check_calls(&rt, &mut Relay::over(below))
 }

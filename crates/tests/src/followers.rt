@@ -63,7 +63,7 @@ fn before_begin(rt: HostRuntime) {
 // though the fraction follower alone takes it.
 #[test]
 fn a_foreign_command(rt: HostRuntime) -> Result<(), Fail> {
-    let pair = AdmittedPair::new(Order::new(3)?, 5, 2)?;
+    let pair = AdmittedPair::new(Order::try_from(3)?, 5, 2)?;
     let mut cofactor = Cofactor::new();
     cofactor.begin(pair);
     assert!(rt; !cofactor.takes(Command::Both));
@@ -88,7 +88,7 @@ fn a_foreign_command(rt: HostRuntime) -> Result<(), Fail> {
 #[test]
 fn a_foreign_run(rt: HostRuntime) -> Result<(), Fail> {
     let mut cofactor = Cofactor::new();
-    cofactor.begin(AdmittedPair::new(Order::new(3)?, 7, 5)?);
+    cofactor.begin(AdmittedPair::new(Order::try_from(3)?, 7, 5)?);
     let command = Command::PlusMinus {
         sign: Sign::Plus,
         exchange: true,

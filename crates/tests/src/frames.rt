@@ -38,7 +38,7 @@ fn check_read(rt: &impl Abort, bytes: &[u8], order: u16, a: i64, b: i64) -> Resu
 
 fn reduction() -> Result<Reduction, Fail> {
     Ok(Reduction {
-        order: Order::new(3)?,
+        order: Order::try_from(3)?,
         count: 4,
         twos: 0,
         g: 1,
@@ -52,7 +52,7 @@ fn reduction() -> Result<Reduction, Fail> {
 #[test]
 fn the_worked_pair(rt: HostRuntime) -> Result<(), Fail> {
     check_read(&rt, &PAIR, 3, 5, 2)?;
-    let pair = AdmittedPair::new(Order::new(3)?, 5, 2)?;
+    let pair = AdmittedPair::new(Order::try_from(3)?, 5, 2)?;
     let mut buffer = [9u8; 7];
     assert_eq!(rt; write_pair(pair, &mut buffer)?, 7);
     assert!(rt; buffer == PAIR);
@@ -121,7 +121,7 @@ fn all_inputs_below_three_bytes(rt: HostRuntime) -> Result<(), Fail> {
 
 // The pair goes out in 5 + 2k bytes and comes back, and what was behind it stays.
 fn check_round(rt: &impl Abort, order: u16, a: i64, b: i64) -> Result<(), Fail> {
-    let pair = AdmittedPair::new(Order::new(i64::from(order))?, a, b)?;
+    let pair = AdmittedPair::new(Order::try_from(i64::from(order))?, a, b)?;
     let mut buffer = [170u8; 24];
     let length = write_pair(pair, &mut buffer)?;
     assert_eq!(rt; length, 7 + 2 * usize::from(order / 8));
@@ -168,7 +168,7 @@ fn damage_is_seen(rt: HostRuntime) {
 
 #[test]
 fn short_buffers_stay_as_they_were(rt: HostRuntime) -> Result<(), Fail> {
-    let pair = AdmittedPair::new(Order::new(3)?, 5, 2)?;
+    let pair = AdmittedPair::new(Order::try_from(3)?, 5, 2)?;
     let mut six = [9u8; 6];
     let Err(fault) = write_pair(pair, &mut six) else {
         return Err(Fail::new("written"));

@@ -10,7 +10,7 @@ use std::test::Fail;
 
 // The reduction of a pair on a word engine.
 fn reduced(order: i64, a: i64, b: i64) -> Result<Reduction, Fail> {
-    let pair = AdmittedPair::new(Order::new(order)?, a, b)?;
+    let pair = AdmittedPair::new(Order::try_from(order)?, a, b)?;
     let (_, reduction) = reduce(&mut WordEngine::new(), pair)?;
     Ok(reduction)
 }

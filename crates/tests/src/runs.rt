@@ -7,7 +7,7 @@ use std::test::Fail;
 
 // How many commands the run of a pair takes on a word engine.
 fn count(order: i64, a: i64, b: i64) -> Result<usize, Fail> {
-    let pair = AdmittedPair::new(Order::new(order)?, a, b)?;
+    let pair = AdmittedPair::new(Order::try_from(order)?, a, b)?;
     let run = run_to_end(&mut WordEngine::new(), pair)?;
     Ok(run.commands.len())
 }

@@ -41,7 +41,7 @@ fn bytes(heap: Global, word: &str) -> anyhow::Result<Vec<u8>> {
 }
 
 fn admitted(order: i64, a: i64, b: i64) -> Result<AdmittedPair, Fault> {
-    AdmittedPair::new(Order::new(order)?, a, b)
+    AdmittedPair::new(Order::try_from(order)?, a, b)
 }
 
 // The reduction of the pair on a word engine.

@@ -178,7 +178,7 @@ pub fn load_pair<E: Engine>(
     a: i64,
     b: i64,
 ) -> Result<(), Fail> {
-    let pair = AdmittedPair::new(Order::new(order)?, a, b)?;
+    let pair = AdmittedPair::new(Order::try_from(order)?, a, b)?;
     let mut buffer = [0u8; 21];
     let length = write_pair(pair, &mut buffer)?;
     let frame = buffer.get(..length).ok_or("beyond the buffer")?;

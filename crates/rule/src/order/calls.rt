@@ -5,19 +5,23 @@ ghost use Rattle.rule.specs.Admission.{AdmitsOrder, width};
 use super::Order;
 use crate::fault::{Fault, Layer, Reason};
 
-impl Order {
-    // The largest order of all.
-    pub const MAX: u16 = 56;
+// The order n, or the refusal of an n outside 1 to 56.
+impl TryFrom<i64> for Order {
+    type Error = Fault;
 
-    // The order n, or the refusal of an n outside 1 to 56.
-    pub fn new(n: i64) -> Result<Order, Fault>
-        ensures { AdmitsOrder n result }
-    {
+    ghost try_from_gives = { AdmitsOrder };
+
+    fn try_from(n: i64) -> Result<Order, Fault> {
         if n < 1 || n > i64::from(Order::MAX) {
             return Err(Fault::new(Reason::OrderOutOfRange, Layer::Frame, 3));
         }
         Ok(Order { value: n as u16 })
     }
+}
+
+impl Order {
+    // The largest order of all.
+    pub const MAX: u16 = 56;
 
     pub fn value(self) -> u16
         ensures { result ≡ self.value }

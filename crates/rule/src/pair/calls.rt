@@ -5,6 +5,7 @@ ghost use Rattle.rule.specs.Admission.{AdmitsPair};
 use super::AdmittedPair;
 use crate::fault::{Fault, Layer, Reason};
 use crate::order::Order;
+use std::fmt;
 
 impl AdmittedPair {
     // The pair a, b of this order, or the refusal of operands that it does not admit.
@@ -41,5 +42,14 @@ impl AdmittedPair {
         ensures { result ≡ self.now.b }
     {
         self.b
+    }
+}
+
+// Both operands and the order, as the programs print them.
+impl fmt::Display for AdmittedPair {
+    fn fmt<W: fmt::Write>(&self, f: &mut fmt::Formatter<W>) -> fmt::Result {
+        let AdmittedPair { order, a, b } = *self;
+        let order = order.value();
+        write!(f, "{a}, {b} of order {order}")
     }
 }

@@ -1,6 +1,7 @@
 // A refusal: why, by which layer, and at which place (docs/REFUSALS.md).
 ghost use Rattle.std.specs.Prelude.{◌≡◌};
 ghost use Rattle.rule.specs.Refusal.{number, fault};
+ghost use Rattle.rule.specs.declared.fault.Layer.TheVariants.{Frame};
 
 use std::fmt;
 
@@ -62,6 +63,20 @@ impl Layer {
 }
 
 impl Reason {
+    // The refusal for this reason, found in a frame at a place.
+    pub fn at(self, place: usize) -> Fault
+        ensures { result ≡ fault self Frame place }
+    {
+        Fault::new(self, Layer::Frame, place)
+    }
+
+    // The refusal for this reason by a layer that names no place.
+    pub fn by(self, layer: Layer) -> Fault
+        ensures { result ≡ fault self layer 0 }
+    {
+        Fault::new(self, layer, 0)
+    }
+
     // The number that stands for this reason in every table and on every line that a program prints.
     pub fn number(self) -> u8
         ensures { result ≡ number self }

@@ -3,7 +3,7 @@ ghost use Rattle.std.specs.Prelude.{◌≡◌};
 ghost use Rattle.rule.specs.Admission.{AdmitsOrder, width};
 
 use super::Order;
-use crate::fault::{Fault, Layer, Reason};
+use crate::fault::{Fault, Reason};
 
 // The order n, or the refusal of an n outside 1 to 56.
 impl TryFrom<i64> for Order {
@@ -13,7 +13,7 @@ impl TryFrom<i64> for Order {
 
     fn try_from(n: i64) -> Result<Order, Fault> {
         if n < 1 || n > i64::from(Order::MAX) {
-            return Err(Fault::new(Reason::OrderOutOfRange, Layer::Frame, 3));
+            return Err(Reason::OrderOutOfRange.at(3));
         }
         Ok(Order { value: n as u16 })
     }

@@ -3,7 +3,7 @@ ghost use Rattle.std.specs.Prelude.{◌≡◌};
 ghost use Rattle.rule.specs.Admission.{AdmitsPair};
 
 use super::AdmittedPair;
-use crate::fault::{Fault, Layer, Reason};
+use crate::fault::{Fault, Reason};
 use crate::order::Order;
 use std::fmt;
 
@@ -15,13 +15,13 @@ impl AdmittedPair {
         let limit = 1u64 << order.value();
         let at_b = 5 + order.width();
         if a.unsigned_abs() >= limit {
-            return Err(Fault::new(Reason::OperandTooLarge, Layer::Frame, 5));
+            return Err(Reason::OperandTooLarge.at(5));
         }
         if b.unsigned_abs() >= limit {
-            return Err(Fault::new(Reason::OperandTooLarge, Layer::Frame, at_b));
+            return Err(Reason::OperandTooLarge.at(at_b));
         }
         if b == 0 {
-            return Err(Fault::new(Reason::DenominatorZero, Layer::Frame, at_b));
+            return Err(Reason::DenominatorZero.at(at_b));
         }
         Ok(AdmittedPair { order, a, b })
     }

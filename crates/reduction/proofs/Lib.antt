@@ -1,3 +1,3 @@
 pub mod Told
-pub mod Results
 pub mod Readouts
+pub mod Ends

@@ -1,13 +1,16 @@
 -- The commands of a run, by their places, and a follower that is told them.
-use Rattle.std.proofs.Common.{◌≡◌, ℕ, zero, suc, ◌+◌, ◌<◌, ◌≤◌, Bool, true, List, ◌∷◌, length, get_or, take, ℤ, sym, refl, ap, ◌∙◌, subst₂, arith}
+use Rattle.std.proofs.Common.{◌≡◌, ℕ, zero, suc, ◌+◌, ◌<◌, ◌≤◌, Bool, true, List, ◌∷◌, length, get_or, take, ℤ, Ok, Err, Result, sym, refl, ap, ◌∙◌, subst, subst₂, arith}
+use Rattle.std.proofs.lemmas.Bool.{both_ways}
 use Rattle.std.proofs.lemmas.List.{take_more}
+use Rattle.std.specs.Result.{IsOk}
 use Rattle.rule.specs.Kind.{Kind}
 use Rattle.rule.specs.Pairs.{start_of}
 use Rattle.rule.specs.Rule.{State, command, next, after, told, Running}
 use Rattle.rule.specs.Whole.{whole}
 use Rattle.rule.specs.declared.command.Command.{Command}
+use Rattle.rule.specs.declared.fault.Fault.{Fault}
 use Rattle.rule.specs.declared.pair.AdmittedPair.{AdmittedPair}
-use Rattle.follower.specs.Following.{turned, Follows}
+use Rattle.follower.specs.Following.{turned, Followed, Follows}
 use Rattle.follower.specs.FollowingLemmas.{turned_more}
 
 told-take : {K : Type 0} (k : Kind K) (i m : ℕ) (s : State K) → i ≤ m → take i (told k m s) ≡ told k i s
@@ -38,6 +41,15 @@ takes_next first accepts turns relation follows p cs i d t run running l e =
     subst₂ (λ x c. accepts x c ≡ true)
     (sym (e ∙ ap (turned turns (first p)) (run_take p cs i run (omega arith))))
     (sym (run-get p cs i d run l)) h
+
+-- a command that is taken is not refused
+pub taken_ok : {T : Type 0} (accepts : T → Command → Bool) (turns : T → Command → T) (t t' : T) (d : Command) (r : Result (Unit {0}) Fault) → Followed accepts turns t d r t' → accepts t d ≡ true → IsOk r
+taken_ok accepts turns t t' d (Ok _) h e = refl
+taken_ok accepts turns t t' d (Err f) h e = absurd (both_ways _ h.0 e)
+
+-- one that is not refused turns the table
+pub taken_turns : {T : Type 0} (accepts : T → Command → Bool) (turns : T → Command → T) (t t' : T) (d : Command) (r : Result (Unit {0}) Fault) (x : Unit {0}) → Followed accepts turns t d r t' → r ≡ Ok x → t' ≡ turns t d
+taken_turns accepts turns t t' d r x h e = (subst (λ q. Followed accepts turns t d q t') e h).1
 
 -- one command more
 pub turned_next : {T : Type 0} (turns : T → Command → T) (t₀ t t' : T) (cs : List Command) (i : ℕ) (d : Command) → i < length cs → t ≡ turned turns t₀ (take i cs) → t' ≡ turns t (get_or cs i d) → t' ≡ turned turns t₀ (take (i + 1) cs)

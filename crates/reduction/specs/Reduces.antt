@@ -18,25 +18,6 @@ use Rattle.follower.specs.Readout.{cofactors_at, Bezout}
 use Rattle.follower.specs.declared.entries.Cofactors.{Cofactors}
 use Rattle.follower.specs.declared.fraction.Ratio.{Ratio}
 
--- These tables were told a whole run, which ended with a.
-pub record Told (r : Run) (a : ℤ) (c : Option CofactorRows) (t : Option FractionRows) : Type 0 where
-  pub need : Need whole (start_of r.pair) (spent r)
-  pub ends : a ≡ (ending r.pair r).a
-  pub g : r.gcd ≡ divisor (ending r.pair r)
-  pub cofactors : c ≡ table_at cofactor_first cofactor_turns r.pair (spent r)
-  pub ratio : t ≡ table_at fraction_first fraction_turns r.pair (spent r)
-
--- The numbers of a run, with these cofactors and this fraction.
-pub record Assembled (r : Run) (c : Cofactors) (q : Ratio) (n : Reduction) : Type 0 where
-  pub order : n.order ≡ r.pair.order
-  pub count : n.count ≡ spent r
-  pub twos : n.twos ≡ r.twos
-  pub g : n.g ≡ r.gcd
-  pub u : n.u ≡ c.u
-  pub v : n.v ≡ c.v
-  pub numerator : n.numerator ≡ q.numerator
-  pub denominator : n.denominator ≡ q.denominator
-
 -- The numbers are what the run and the followers end with, and they are right: u and v are cofactors, and the fraction is a/b in
 -- lowest terms.
 pub record Right (p : AdmittedPair) (r : Run) (n : Reduction) : Type 0 where

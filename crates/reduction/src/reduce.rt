@@ -1,20 +1,17 @@
 // The reduction of a pair: its run on any engine, told to the followers, and what they end with (docs/FOLLOWERS.md).
-ghost use Rattle.std.specs.Prelude.{◌≡◌, ◌*◌, ◌≤◌, length};
-ghost use Rattle.rule.specs.Pairs.{order_of, start_of};
-ghost use Rattle.frame.specs.Fits.{Fit};
-ghost use Rattle.engine.specs.Runs.{spent};
+ghost use Rattle.std.specs.Prelude.{◌≡◌, length};
+ghost use Rattle.rule.specs.Pairs.{start_of};
 ghost use Rattle.rule.specs.Rule.{told, Running};
 ghost use Rattle.rule.specs.Whole.{whole};
 ghost use Rattle.follower.specs.Following.{table_at};
-ghost use Rattle.follower.specs.CofactorTable.{cofactor_table};
-ghost use Rattle.follower.specs.FractionTable.{fraction_table};
-ghost use Rattle.reduction.specs.Reduces.{Told, Assembled, Right, Reduces};
+ghost use Rattle.reduction.specs.Reduces.{Reduces};
 
+use crate::readout::read_out;
 use engine::engine::Engine;
 use engine::run::{Run, run_to_end};
-use follower::cofactor::{Cofactor, Cofactors};
+use follower::cofactor::Cofactor;
 use follower::follower::Follower;
-use follower::fraction::{Fraction, Ratio};
+use follower::fraction::Fraction;
 use follower::pair::Pair;
 use frame::reduction::Reduction;
 use rule::command::Command;
@@ -29,43 +26,8 @@ fn follow_run<F: Follower>(follower: &mut F, pair: AdmittedPair, commands: &[Com
 {
     follower.begin(pair);
     for command in commands {
-        match follower.follow(*command) {
-            Ok(()) => {}
-            Err(_) => unreachable(),
-        }
+        follower.follow(*command).unwrap();
     }
-}
-
-// The numbers of a run and of its followers, put together.
-fn assembled(run: &Run, cofactors: Cofactors, ratio: Ratio) -> Reduction
-    requires few { spent run.now ≤ 225 }
-    requires fit { Fit (order_of run.now.pair) run.now.gcd cofactors.u cofactors.v ratio.numerator ratio.denominator }
-    ensures { Assembled run.now cofactors ratio result }
-{
-    Reduction {
-        order: run.pair.order(),
-        count: run.commands.len() as u16,
-        twos: run.twos,
-        g: run.gcd,
-        u: cofactors.u,
-        v: cofactors.v,
-        numerator: ratio.numerator,
-        denominator: ratio.denominator,
-    }
-}
-
-// What the followers give, once they were told a whole run that ended with a.
-fn read_out(run: &Run, a: i64, cofactor: &Cofactor, fraction: &Fraction) -> Reduction
-    requires { Told run.now a (cofactor_table cofactor.now) (fraction_table fraction.now) }
-    ensures { Right run.now.pair run.now result }
-{
-    let Some(cofactors) = cofactor.cofactors(a) else {
-        unreachable()
-    };
-    let Some(ratio) = fraction.read_out() else {
-        unreachable()
-    };
-    assembled(run, cofactors, ratio)
 }
 
 // The reduction of a pair on any engine, with the run that it took.
@@ -78,6 +40,6 @@ pub fn reduce<E: Engine>(engine: &mut E, pair: AdmittedPair) -> Result<(Run, Red
         second: Fraction::new(),
     };
     follow_run(&mut followers, pair, run.commands.as_slice());
-    let reduction = read_out(&run, engine.a(), &followers.first, &followers.second);
+    let reduction = read_out(pair, engine, &followers).unwrap();
     Ok((run, reduction))
 }

@@ -1,5 +1,5 @@
 -- What an engine and followers read out at the end of a run is right, and fits.
-use Rattle.std.proofs.Common.{◌≡◌, ℕ, ◌*◌, ◌^◌, ◌<◌, ◌≤◌, Bool, true, false, cond, ltb, ℤ, nat_abs, Some, None, Option, sym, ap, ◌∙◌, subst, ap₂, arith, pow_mono}
+use Rattle.std.proofs.Common.{◌≡◌, ℕ, ◌*◌, ◌^◌, ◌<◌, ◌≤◌, Bool, true, false, cond, ltb, ℤ, nat_abs, Some, None, Option, sym, refl, ap, ◌∙◌, subst, ap₂, arith, pow_mono}
 use Rattle.std.proofs.lemmas.Bool.{both_ways, ltb-true, lt-ltb, and_parts, and_from, cond-true}
 use Rattle.rule.specs.Divisor.{Greatest, divisor}
 use Rattle.rule.specs.Pairs.{order_of, start_of}
@@ -44,15 +44,16 @@ scaled_is z t g e = by _ e
 -- the test on sizes and the fact
 pub fitting_fits : (n g : ℕ) (c : Cofactors) (q : Ratio) → fitting n g c q ≡ true → Fit n g c.u c.v q.numerator q.denominator
 fitting_fits n g c q e =
-    let d = and_parts _ (ltb (nat_abs q.denominator) (2 ^ n)) e in
-    let nu = and_parts _ (ltb (nat_abs q.numerator) (2 ^ n)) d.0 in
-    let v = and_parts _ (ltb (nat_abs c.v) (2 ^ n)) nu.0 in
-    let u = and_parts _ (ltb (nat_abs c.u) (2 ^ n)) v.0 in
-    (ltb-true _ _ u.0, ltb-true _ _ u.1, ltb-true _ _ v.1, ltb-true _ _ nu.1, ltb-true _ _ d.1)
+    let h0 = and_parts (ltb g (2 ^ n)) _ e in
+    let h1 = and_parts (ltb (nat_abs c.u) (2 ^ n)) _ h0.1 in
+    let h2 = and_parts (ltb (nat_abs c.v) (2 ^ n)) _ h1.1 in
+    let h3 = and_parts (ltb (nat_abs q.numerator) (2 ^ n)) _ h2.1 in
+    let h4 = and_parts (ltb (nat_abs q.denominator) (2 ^ n)) _ h3.1 in
+    (ltb-true _ _ h0.0, ltb-true _ _ h1.0, ltb-true _ _ h2.0, ltb-true _ _ h3.0, ltb-true _ _ h4.0)
 
 fits_fitting : (n g : ℕ) (c : Cofactors) (q : Ratio) → Fit n g c.u c.v q.numerator q.denominator → fitting n g c q ≡ true
 fits_fitting n g c q h =
-    and_from _ _ (and_from _ _ (and_from _ _ (and_from _ _ (lt-ltb _ _ h.0) (lt-ltb _ _ h.1)) (lt-ltb _ _ h.2)) (lt-ltb _ _ h.3)) (lt-ltb _ _ h.4)
+    and_from _ _ (lt-ltb _ _ h.0) (and_from _ _ (lt-ltb _ _ h.1) (and_from _ _ (lt-ltb _ _ h.2) (and_from _ _ (lt-ltb _ _ h.3) (and_from _ true (lt-ltb _ _ h.4) refl))))
 
 -- the commands that an engine on the run of a pair has counted
 pub count_stands : (p : AdmittedPair) (k : ℕ) → (state_at p k).count ≡ k

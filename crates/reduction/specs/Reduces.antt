@@ -1,9 +1,5 @@
 -- What the reduction of a pair gives.
-use Rattle.std.specs.Prelude.{◌≡◌, ℕ, ℤ, Some, Ok, Err, Option, Result}
-use Rattle.rule.specs.Divisor.{divisor}
-use Rattle.rule.specs.Pairs.{start_of}
-use Rattle.rule.specs.Rule.{Need}
-use Rattle.rule.specs.Whole.{whole}
+use Rattle.std.specs.Prelude.{◌≡◌, ℕ, Some, Ok, Err, Result}
 use Rattle.rule.specs.declared.fault.Fault.{Fault}
 use Rattle.rule.specs.declared.pair.AdmittedPair.{AdmittedPair}
 use Rattle.frame.specs.declared.reduction.Reduction.{Reduction}
@@ -11,12 +7,10 @@ use Rattle.engine.specs.Meaning.{Meaning}
 use Rattle.engine.specs.Runs.{spent, ending, Runs}
 use Rattle.engine.specs.declared.run.Run.{Run}
 use Rattle.follower.specs.Following.{table_at}
-use Rattle.follower.specs.Cofactor.{CofactorRows, cofactor_first, cofactor_turns}
-use Rattle.follower.specs.Fraction.{FractionRows, fraction_first, fraction_turns, Reduced}
+use Rattle.follower.specs.Cofactor.{cofactor_first, cofactor_turns}
+use Rattle.follower.specs.Fraction.{fraction_first, fraction_turns, Reduced}
 use Rattle.follower.specs.FractionTable.{read_out}
 use Rattle.follower.specs.Readout.{cofactors_at, Bezout}
-use Rattle.follower.specs.declared.entries.Cofactors.{Cofactors}
-use Rattle.follower.specs.declared.fraction.Ratio.{Ratio}
 
 -- The numbers are what the run and the followers end with, and they are right: u and v are cofactors, and the fraction is a/b in
 -- lowest terms.

@@ -1,5 +1,6 @@
 -- What the reduction of a pair is, and what is right of it.
-use Rattle.std.specs.Prelude.{◌≡◌, ℕ, ◌*◌, ◌^◌, Bool, true, false, cond, ◌&&◌, ℤ, Some, None, Option, nat_lt, unsigned_abs}
+use Rattle.std.specs.Prelude.{◌≡◌, ℕ, ◌*◌, ◌^◌, Bool, true, false, cond, ◌&&◌, [], ◌∷◌, ℤ, Some, None, Option, nat_lt, unsigned_abs}
+use Rattle.std.specs.List.{list_all}
 use Rattle.rule.specs.Divisor.{divisor, Greatest}
 use Rattle.rule.specs.Pairs.{order_of, start_of}
 use Rattle.rule.specs.Rule.{State, after, Running}
@@ -48,7 +49,7 @@ ReadsOut p k None = is_zero (state_at p k).b ≡ false
 
 -- Whether each number of a result is below 2^n in size.
 abbrev pub fitting : ℕ → ℕ → Cofactors → Ratio → Bool
-fitting n g c q = nat_lt g (2 ^ n) && nat_lt (unsigned_abs c.u) (2 ^ n) && nat_lt (unsigned_abs c.v) (2 ^ n) && nat_lt (unsigned_abs q.numerator) (2 ^ n) && nat_lt (unsigned_abs q.denominator) (2 ^ n)
+fitting n g c q = list_all (λ x. nat_lt x (2 ^ n)) (g ∷ unsigned_abs c.u ∷ unsigned_abs c.v ∷ unsigned_abs q.numerator ∷ unsigned_abs q.denominator ∷ [])
 
 -- |z| times 2^t, if it is below 2^64 and t below 64.
 abbrev pub scaled : ℤ → ℕ → Option ℕ

@@ -18,10 +18,8 @@ pub type Followers = Pair<Cofactor, Fraction>;
 fn divisor(a: i64, twos: u16) -> Option<u64>
     ensures { result ≡ scaled a twos }
 {
-    if twos >= 64 {
-        return None;
-    }
-    a.unsigned_abs().checked_mul(1 << twos)
+    let power = 1u64.checked_shl(u32::from(twos))?;
+    a.unsigned_abs().checked_mul(power)
 }
 
 // Whether each number fits the bytes that the order gives it.
@@ -29,11 +27,14 @@ fn fit(order: Order, g: u64, cofactors: Cofactors, ratio: Ratio) -> bool
     ensures { result ≡ fitting order.value g cofactors ratio }
 {
     let limit = 1u64 << order.value();
-    (g < limit)
-        & (cofactors.u.unsigned_abs() < limit)
-        & (cofactors.v.unsigned_abs() < limit)
-        & (ratio.numerator.unsigned_abs() < limit)
-        & (ratio.denominator.unsigned_abs() < limit)
+    let sizes = [
+        g,
+        cofactors.u.unsigned_abs(),
+        cofactors.v.unsigned_abs(),
+        ratio.numerator.unsigned_abs(),
+        ratio.denominator.unsigned_abs(),
+    ];
+    sizes.iter().all(|size| *size < limit)
 }
 
 // The result of a pair, if the engine and the followers have come to the end of its run.

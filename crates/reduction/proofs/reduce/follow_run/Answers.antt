@@ -1,5 +1,3 @@
-use Rattle.std.proofs.Common.{ap, ◌∙◌, arith}
-use Rattle.std.proofs.lemmas.List.{take_all}
 use Rattle.follower.specs.Following.{turned}
 use Rattle.reduction.proofs.Told.{takes_next, taken_ok, taken_turns, turned_next}
 use Rattle.reduction.proofs.reduce.follow_run.Goals as goal
@@ -19,9 +17,3 @@ loop-command-preserved g c =
     let f = g.F.Follower in
     turned_next f.turns (f.first c.args.pair) (f.table c.loop-command.follower) (f.table c.follow.new.self) c.args.commands.now c.loop-command.command-index _ c.loop-command-test.true c.loop-command.invariant
     (taken_turns f.accepts f.turns _ _ _ c.follow.result c.unwrap.result c.follow.ensures c.unwrap.ensures)
-
-pub returns : goal.returns
-returns g c =
-    let f = g.F.Follower in
-    let cs = c.args.commands.now in
-    c.loop-command.invariant ∙ ap (turned f.turns (f.first c.args.pair)) (take_all c.loop-command.command-index cs (omega (arith, c.loop-command-test.false)) ∙ c.requires.run)

@@ -1,5 +1,5 @@
 -- Bytes as text of hexadecimal digits, two for each.
-use Rattle.std.specs.Prelude.{◌≡◌, ℕ, ◌+◌, ◌*◌, ◌/◌, ◌%◌, cond, List, [], ◌∷◌, ◌++◌, Some, None, Option, nat_lt}
+use Rattle.std.specs.Prelude.{◌≡◌, ℕ, ◌+◌, ◌*◌, ◌/◌, ◌%◌, cond, List, [], ◌∷◌, ◌++◌, Some, None, Option, nat_lt, codes}
 use Rattle.std.specs.Char.{digit_value, digit_char}
 use Rattle.frame.specs.declared.hex.HexFault.{HexFault}
 use Rattle.frame.specs.declared.hex.HexFault.TheVariants.{OddLength, NotADigit, NoMemory}
@@ -43,3 +43,9 @@ abbrev pub Wrong : List ℕ → HexFault → Type 0
 Wrong text OddLength = hex_reading text ≡ bad OddLength
 Wrong text NotADigit = hex_reading text ≡ bad NotADigit
 Wrong text NoMemory = Unit {0}
+
+-- What a refusal says in a plain sentence.
+abbrev pub sentence : HexFault → List ℕ
+sentence OddLength = codes "a frame has two hexadecimal digits for each byte"
+sentence NotADigit = codes "a frame has only hexadecimal digits"
+sentence NoMemory = codes "no memory for the frame"

@@ -1,9 +1,11 @@
 // Bytes to hexadecimal text and back, two digits for each byte.
-ghost use Rattle.std.specs.Prelude.{◌≡◌, ◌<◌, Ok, Err, string_bytes};
+ghost use Rattle.std.specs.Prelude.{◌≡◌, ◌<◌, Ok, Err, Some, string_bytes};
 ghost use Rattle.std.specs.Char.{digit_char};
-ghost use Rattle.frame.specs.Hex.{Wrong, good, hex_byte, hex_digit, hex_reading, hex_text};
+ghost use Rattle.frame.specs.Hex.{Wrong, good, hex_byte, hex_digit, hex_reading, hex_text, sentence};
 
 use std::alloc::{AllocError, Global};
+use std::error::Error;
+use std::fmt;
 
 // What can be wrong with hexadecimal text.
 #[derive(Clone, Copy, PartialEq, Eq, Debug)]
@@ -12,6 +14,29 @@ pub enum HexFault {
     NotADigit,
     NoMemory,
 }
+
+impl HexFault {
+    // What is wrong, in a plain sentence.
+    fn sentence(self) -> &'static str
+        ensures { result.now ≡ sentence self }
+    {
+        match self {
+            HexFault::OddLength => "a frame has two hexadecimal digits for each byte",
+            HexFault::NotADigit => "a frame has only hexadecimal digits",
+            HexFault::NoMemory => "no memory for the frame",
+        }
+    }
+}
+
+impl fmt::Display for HexFault {
+    ghost output = { λ fault. Some (sentence fault) };
+
+    fn fmt<W: fmt::Write>(&self, f: &mut fmt::Formatter<W>) -> fmt::Result {
+        f.pad(self.sentence())
+    }
+}
+
+impl Error for HexFault {}
 
 // The value of a digit in either case.
 fn digit(c: u8) -> Option<u8>

@@ -11,9 +11,9 @@ pub struct Report {
 
 impl fmt::Display for Report {
     fn fmt<W: fmt::Write>(&self, f: &mut fmt::Formatter<W>) -> fmt::Result {
-        let order = self.run.pair.order().value();
-        let a = self.run.pair.a();
-        let b = self.run.pair.b();
+        let pair = self.run.pair;
+        let a = pair.a();
+        let b = pair.b();
         let Reduction {
             order: _,
             count,
@@ -24,7 +24,7 @@ impl fmt::Display for Report {
             numerator,
             denominator,
         } = self.reduction;
-        writeln!(f, "pair       {a}, {b} of order {order}")?;
+        writeln!(f, "pair       {pair}")?;
         write!(f, "commands  ")?;
         for command in self.run.commands.as_slice() {
             write!(f, " {command}")?;

@@ -1,6 +1,6 @@
 -- Why |a| times 2^twos is the greatest common divisor at the end of a run.
-use Rattle.std.proofs.Common.{◌≡◌, ℕ, zero, suc, ◌*◌, ◌^◌, ◌<◌, ◌≤◌, Bool, true, false, ℤ, pos, negsuc, ◌+ℤ◌, ◌-ℤ◌, ◌*ℤ◌, neg_ℤ, nat_abs, sym, refl, ap, ◌∙◌, arith}
-use lib.IntN.{+ℤ_comm, *ℤ-zero, zero-*ℤ}
+use Rattle.std.proofs.Common.{◌≡◌, ℕ, suc, ◌*◌, ◌^◌, ◌≤◌, Bool, true, false, ℤ, pos, negsuc, ◌+ℤ◌, ◌-ℤ◌, ◌*ℤ◌, neg_ℤ, nat_abs, sym, refl, ap, ◌∙◌, arith}
+use lib.IntN.{+ℤ_comm, *ℤ-zero, neg_ℤ-neg_ℤ}
 use lib.Signed.{le_z}
 use Rattle.std.proofs.lemmas.Int.{ints}
 use Rattle.rule.specs.Kind.{sign_by, summed}
@@ -8,8 +8,10 @@ use Rattle.rule.specs.Rule.{State, start, command_by, command, obeyed, next, aft
 use Rattle.rule.specs.Whole.{odd, half, fourfold, whole}
 use Rattle.rule.specs.Divisor.{Divides, Greatest, divisor}
 use Rattle.rule.specs.Theorems.{DivisorIsGreatest}
-use Rattle.rule.proofs.Ring.{out, lin, *ℤ-unit, neg-neg}
+use Rattle.rule.proofs.Ring.{out, lin, *ℤ-unit}
+use Rattle.rule.proofs.Sizes.{factor_most, left_some, right_some}
 use Rattle.rule.proofs.Parity.{odd_yes, odd_no, joins}
+use Rattle.rule.proofs.Fuel.{kept_after}
 use Rattle.rule.proofs.Whole.{zero_yes}
 
 -- ---- what divides two numbers divides their combinations
@@ -44,7 +46,7 @@ record Shares (x y : ℤ) (s : State ℤ) : Type 0 where
   back : (d : ℤ) → Divides d s.a → Divides d s.b → Divides (d *ℤ scale s.twos) x × Divides (d *ℤ scale s.twos) y
 
 shares_start : (x y : ℤ) → Shares x y (start x y)
-shares_start x y = record { down = λ d i j. (simp *ℤ-unit i, simp *ℤ-unit j); back = λ d i j. (simp *ℤ-unit i, simp *ℤ-unit j) }
+shares_start x y = record { down = λ d i j. simp *ℤ-unit (i, j); back = λ d i j. simp *ℤ-unit (i, j) }
 
 -- a command that leaves twos, and gives a pair with the same common divisors
 shares_pair : (x y : ℤ) (s t : State ℤ) → t.twos ≡ s.twos
@@ -74,31 +76,26 @@ shares_both x y s t e p q h =
     doubled : (d z h : ℤ) → z ≡ h +ℤ h → Divides d h → Divides (d +ℤ d) z
     doubled d z h e k = record { quotient = k.quotient; exact = e ∙ simp (k.exact, out) }
 
-shares_by : (x y : ℤ) (s : State ℤ) (p q r z : Bool) → odd s.a ≡ p → odd s.b ≡ q → fourfold (s.a +ℤ s.b) ≡ r → Shares x y s → Shares x y (obeyed whole (command_by p q r z) s)
-shares_by x y s false false r z e f g h = shares_both x y s _ refl (odd_no s.a e) (odd_no s.b f) h
-shares_by x y s false true r z e f g h =
+shares_by : (x y : ℤ) (s : State ℤ) (p q z : Bool) → odd s.a ≡ p → odd s.b ≡ q → Shares x y s → Shares x y (obeyed whole (command_by p q (fourfold (s.a +ℤ s.b)) z) s)
+shares_by x y s false false z e f h = shares_both x y s _ refl (odd_no s.a e) (odd_no s.b f) h
+shares_by x y s false true z e f h =
     shares_pair x y s _ refl
     (λ d m i j. (j, divides_half d m s.b (half s.a) s.a f (odd_no s.a e) j i))
     (λ d i j. (divides_double d s.a (half s.a) (odd_no s.a e) j, i)) h
-shares_by x y s true false r z e f g h =
+shares_by x y s true false z e f h =
     shares_pair x y s _ refl
     (λ d m i j. (i, divides_half d m s.a (half s.b) s.b e (odd_no s.b f) i j))
     (λ d i j. (i, divides_double d s.b (half s.b) (odd_no s.b f) j)) h
-shares_by x y s true true r false e f g h =
-    let w = (joins s.a s.b r e f g).twice in
-    shares_pair x y s _ refl (λ d m i j. (i, divides_joined d m _ _ _ r e w i j)) (λ d i j. (i, divides_other d _ _ _ r w i j)) h
-shares_by x y s true true r true e f g h =
-    let w = (joins s.b s.a r f e (ap fourfold (+ℤ_comm s.b s.a) ∙ g)).twice in
-    shares_pair x y s _ refl (λ d m i j. (j, divides_joined d m _ _ _ r f w j i)) (λ d i j. (divides_other d _ _ _ r w i j, i)) h
+shares_by x y s true true false e f h =
+    let w = (joins s.a s.b _ e f refl).twice in
+    shares_pair x y s _ refl (λ d m i j. (i, divides_joined d m _ _ _ _ e w i j)) (λ d i j. (i, divides_other d _ _ _ _ w i j)) h
+shares_by x y s true true true e f h =
+    let w = (joins s.b s.a _ f e (ap fourfold (+ℤ_comm s.b s.a))).twice in
+    shares_pair x y s _ refl (λ d m i j. (j, divides_joined d m _ _ _ _ f w j i)) (λ d i j. (divides_other d _ _ _ _ w i j, i)) h
 
 shares_next : (x y : ℤ) (s : State ℤ) → Shares x y s → Shares x y (next whole s)
 unfolding next command
-shares_next x y s h = shares_by x y s (odd s.a) (odd s.b) (fourfold (s.a +ℤ s.b)) (le_z (pos 0) s.δ) refl refl refl h
-
-shares_after : (x y : ℤ) (m : ℕ) (s : State ℤ) → Shares x y s → Shares x y (after whole m s)
-unfolding after
-shares_after x y zero s h = h
-shares_after x y (suc m) s h = shares_after x y m (next whole s) (shares_next x y s h)
+shares_next x y s h = shares_by x y s (odd s.a) (odd s.b) (le_z (pos 0) s.δ) refl refl h
 
 -- ---- the end
 divides_size : (e : ℤ) (t : ℕ) (z : ℤ) → Divides (e *ℤ pos t) z → Divides (pos (nat_abs e * t)) z
@@ -107,38 +104,25 @@ divides_size (negsuc n) t z h = record { quotient = neg_ℤ h.quotient; exact = 
 
 size_divided : (d e : ℤ) (t : ℕ) → Divides d (e *ℤ pos t) → Divides d (pos (nat_abs e * t))
 size_divided d (pos n) t h = h
-size_divided d (negsuc n) t h = record { quotient = neg_ℤ h.quotient; exact = sym (neg-neg (pos (suc n * t))) ∙ ap neg_ℤ h.exact ∙ simp out }
+size_divided d (negsuc n) t h = record { quotient = neg_ℤ h.quotient; exact = sym (neg_ℤ-neg_ℤ (pos (suc n * t))) ∙ ap neg_ℤ h.exact ∙ simp out }
 
-divides_most : (d g : ℕ) (q : ℤ) → pos g ≡ pos d *ℤ q → 0 < g → d ≤ g
-divides_most d g (pos zero) e l = absurd (omega (arith, ints))
-divides_most d g (pos (suc q)) e l = omega (arith, ints)
-divides_most d g (negsuc q) e l = absurd (omega (arith, ints))
-
-divisor_some : (g : ℕ) (y q : ℤ) → (y ≡ pos 0 → ⊥) → y ≡ pos g *ℤ q → 0 < g
-divisor_some zero y q n e = absurd (n (e ∙ zero-*ℤ q))
-divisor_some (suc g) y q n e = omega arith
+-- what divides a number other than 0 is no larger
+divides_most : (d : ℕ) (z : ℤ) → (z ≡ pos 0 → ⊥) → Divides (pos d) z → d ≤ nat_abs z
+divides_most d z n h = factor_most (pos d) h.quotient z (sym h.exact) (right_some (pos d) h.quotient z (sym h.exact) n)
 
 at_end : (x y : ℤ) (s : State ℤ) → (y ≡ pos 0 → ⊥) → s.b ≡ pos 0 → Shares x y s → Greatest (divisor s) x y
 at_end x y s n z h =
     let w = h.back s.a (record { quotient = pos 1; exact = sym (*ℤ-unit s.a) }) (record { quotient = pos 0; exact = z ∙ sym (*ℤ-zero s.a) }) in
-    let u = divides_size s.a (2 ^ s.twos) x w.0 in
     let v = divides_size s.a (2 ^ s.twos) y w.1 in
     record {
-      divides_x = u;
+      divides_x = divides_size s.a (2 ^ s.twos) x w.0;
       divides_y = v;
-      greatest = λ d i j.
-          let c = size_divided (pos d) s.a (2 ^ s.twos) (h.down (pos d) i j).0 in
-          divides_most d (divisor s) c.quotient c.exact (divisor_some (divisor s) y v.quotient n v.exact);
+      greatest = λ d i j. divides_most d (pos (divisor s)) (left_some (pos (divisor s)) v.quotient y (sym v.exact) n) (size_divided (pos d) s.a (2 ^ s.twos) (h.down (pos d) i j).0);
     }
 
 pub divisor_greatest : DivisorIsGreatest
-divisor_greatest x y n m need = at_end x y (after whole m (start x y)) n (zero_yes _ need.over) (shares_after x y m (start x y) (shares_start x y))
+divisor_greatest x y n m need =
+    at_end x y (after whole m (start x y)) n (zero_yes _ need.over) (kept_after whole (Shares x y) (λ s h z. shares_next x y s h) m (start x y) (shares_start x y) need.before)
 
--- a common divisor is no larger than a number other than 0 that it divides
 pub greatest_most : (g : ℕ) (x y : ℤ) → (y ≡ pos 0 → ⊥) → Greatest g x y → g ≤ nat_abs y
-greatest_most g x y n h = by h.divides_y.quotient h.divides_y.exact
-  where
-    by : (q : ℤ) → y ≡ pos g *ℤ q → g ≤ nat_abs y
-    by (pos zero) e = absurd (n (e ∙ *ℤ-zero (pos g)))
-    by (pos (suc q)) e = omega (arith, ints, e)
-    by (negsuc q) e = omega (arith, ints, e)
+greatest_most g x y n h = divides_most g y n h.divides_y

@@ -31,4 +31,4 @@ holds l h e c g = record { order = (grind (arith, nat_tests), grind (arith, nat_
 
 pub marked_hold : All Holds marked
 unfolding odd half fourfold command next after told ends_at admits
-marked_hold = search (holds, refl)
+marked_hold = search holds

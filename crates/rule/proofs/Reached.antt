@@ -28,8 +28,8 @@ reached_next n s z r =
 pub narrow_word : (n : ℕ) (s : State ℤ) → n ≤ 56 → ∥ Reached n s ∥₁ → Narrow 56 s
 narrow_word n s l r =
     ∥∥₁_elim r (hlevel le_prop) (λ q.
-        let h = subst (Narrow n) q.here (running_narrow n q.x q.y q.operands.0 q.operands.1 s.count q.running) in
-        omega (arith, pow_mono l))
+    let h = subst (Narrow n) q.here (running_narrow n q.x q.y q.operands.0 q.operands.1 s.count q.running) in
+    omega (arith, pow_mono l))
 
 pub narrow_exchanged : (n : ℕ) (x : Bool) (s : State ℤ) → Narrow n s → Narrow n (exchanged x s)
 narrow_exchanged n false s h = h

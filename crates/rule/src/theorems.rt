@@ -2,21 +2,25 @@
 ghost use Rattle.rule.specs.Theorems.{WholeIsLawful, HalvingsAreExact, NeedIsBounded, NeedIsUnique, RunIsNarrow, DivisorIsGreatest};
 
 // Whole numbers keep the laws of parity, halving, sums and size that the bound rests on.
+#[tactic(auto, using(crate::proofs::Whole::whole_lawful))]
 pub fn whole_numbers_are_lawful()
     ensures { WholeIsLawful }
 {}
 
 // Only even numbers are halved.
+#[tactic(auto, using(crate::proofs::Whole::halvings_exact))]
 pub fn halvings_are_exact()
     ensures { HalvingsAreExact }
 {}
 
 // The need exists and is at most 4n + 1.
+#[tactic(auto, using(crate::proofs::Whole::need_bounded))]
 pub fn need_is_bounded()
     ensures { NeedIsBounded }
 {}
 
 // There is no more than one need.
+#[tactic(auto, using(crate::proofs::Fuel::need_unique))]
 pub fn need_is_unique()
     ensures { NeedIsUnique }
 {}

@@ -1,6 +1,6 @@
 -- Why u and v are cofactors of the greatest common divisor, and small.
 use Rattle.std.proofs.Common.{◌≡◌, ℕ, zero, suc, ◌+◌, ◌*◌, ◌^◌, ◌<◌, ◌≤◌, Bool, true, false, ◌||◌, ltb, ℤ, pos, ◌+ℤ◌, ◌-ℤ◌, ◌*ℤ◌, neg_ℤ, nat_abs, sym, refl, ap, ◌∙◌, subst, subst₂, inl, inr, mul-le-mul_right, mul-one, le_of_mul-le-mul_right, arith, pow_pos, pow_mono}
-use Rattle.std.proofs.lemmas.Int.{ints}
+use Rattle.std.proofs.lemmas.Int.{ints, unsigned_abs-mul}
 use Rattle.std.proofs.lemmas.Bool.{cases_Bool, both_ways, ltb-true, ltb-false}
 use Rattle.rule.specs.Divisor.{Divides, Greatest, divisor}
 use Rattle.rule.specs.Pairs.{order_of, start_of}
@@ -11,7 +11,7 @@ use Rattle.rule.proofs.Divisor.{divisor_greatest}
 use Rattle.rule.proofs.Ring.{out, lin}
 use Rattle.rule.proofs.Whole.{zero_yes}
 use Rattle.rule.proofs.Parity.{odd_yes, odd_no, odd_double}
-use Rattle.rule.proofs.Sizes.{abs-mul, factor_most, left_some, right_some, pow_some}
+use Rattle.rule.proofs.Sizes.{factor_most, left_some, right_some, pow_some}
 use Rattle.follower.specs.Signs.{is_negative, negated_by}
 use Rattle.follower.specs.Negated.{negated_size}
 use Rattle.follower.specs.Cofactor.{CofactorRows}
@@ -44,8 +44,8 @@ u_small true c y e h = moved_near (is_negative c) (is_negative y) c y refl refl 
 -- twice |v| times |y| is at most 2g + 2|u||x|
 v_bound : (g : ℕ) (x y u v : ℤ) → u *ℤ x +ℤ v *ℤ y ≡ pos g → nat_abs v * nat_abs y ≤ g + nat_abs u * nat_abs x
 v_bound g x y u v e =
-    let p = abs-mul u x in
-    let q = abs-mul v y in
+    let p = unsigned_abs-mul u x in
+    let q = unsigned_abs-mul v y in
     let r : nat_abs (v *ℤ y) ≤ g + nat_abs (u *ℤ x) = bound (u *ℤ x) (v *ℤ y) e in
     omega arith
   where
@@ -70,7 +70,7 @@ v_small_near X A U V o l u h =
 cancel_scale : (z w : ℤ) (t : ℕ) → 0 < t → z *ℤ pos t ≡ w *ℤ pos t → z ≡ w
 cancel_scale z w t o e =
     let d : (z -ℤ w) *ℤ pos t ≡ pos 0 = ident (pos t) e in
-    let f : nat_abs (z -ℤ w) * t ≡ 0 = sym (abs-mul (z -ℤ w) (pos t)) ∙ ap nat_abs d in
+    let f : nat_abs (z -ℤ w) * t ≡ 0 = sym (unsigned_abs-mul (z -ℤ w) (pos t)) ∙ ap nat_abs d in
     let l : nat_abs (z -ℤ w) ≤ 0 = le_of_mul-le-mul_right {m = nat_abs (z -ℤ w)} {n = 0} {k = t} (omega arith) o in
     omega (arith, ints, l)
   where
@@ -101,10 +101,10 @@ v_small : (g : ℕ) (x y q r u v : ℤ) → x ≡ pos g *ℤ q → y ≡ pos g *
 v_small g x y q r u v e f o some_x some_y h s = by (nat_abs r) refl
   where
     size_x : nat_abs x ≡ g * nat_abs q
-    size_x = ap nat_abs e ∙ abs-mul (pos g) q
+    size_x = ap nat_abs e ∙ unsigned_abs-mul (pos g) q
 
     size_y : nat_abs y ≡ g * nat_abs r
-    size_y = ap nat_abs f ∙ abs-mul (pos g) r
+    size_y = ap nat_abs f ∙ unsigned_abs-mul (pos g) r
 
     by : (k : ℕ) → nat_abs r ≡ k → 2 * nat_abs v ≤ nat_abs x + 1
     by zero n = absurd (let z : nat_abs y ≡ g * 0 = size_y ∙ ap (λ (i : ℕ). g * i) n in omega (arith, z))

@@ -1,8 +1,8 @@
 -- Why the fraction follower stays in its relation, and why its first column ends as the fraction in lowest terms.
 use Rattle.std.specs.Prelude.{◌≡◌, ℕ, zero, suc, ◌*◌, ◌^◌, ◌<◌, ◌≤◌, Bool, true, false, ℤ, pos, negsuc, ◌+ℤ◌, ◌-ℤ◌, ◌*ℤ◌, neg_ℤ, ◌<ℤ◌, Some, None, Option, ◌≢◌, int_le, int_lt, unsigned_abs, refl}
 use Rattle.std.proofs.Common.{sym, ap, ap₂, ◌∙◌, subst, subst₂, arith, mod-lt}
-use Rattle.std.proofs.Math.IntN.{+ℤ_comm, *ℤ-zero, zero-*ℤ}
-use Rattle.std.proofs.lemmas.Int.{ints}
+use Rattle.std.proofs.Math.IntN.{+ℤ_comm, *ℤ-zero, zero-*ℤ, neg_ℤ-neg_ℤ}
+use Rattle.std.proofs.lemmas.Int.{ints, unsigned_abs-mul}
 use Rattle.rule.specs.Kind.{sign_by, summed}
 use Rattle.rule.specs.Divisor.{Divides, Greatest, divisor}
 use Rattle.rule.specs.Pairs.{order_of, start_of}
@@ -10,8 +10,8 @@ use Rattle.rule.specs.Rule.{State, command_by, command, obeyed, next, after, tol
 use Rattle.rule.specs.Whole.{odd, half, fourfold, whole, Below}
 use Rattle.rule.specs.declared.command.Command.{Command}
 use Rattle.rule.specs.declared.pair.AdmittedPair.{AdmittedPair}
-use Rattle.rule.proofs.Ring.{out, lin, *ℤ-unit, *ℤ-neg, neg-*ℤ, neg-neg}
-use Rattle.rule.proofs.Sizes.{abs-mul, factor_most, left_some, right_some, pow_some}
+use Rattle.rule.proofs.Ring.{out, lin, *ℤ-unit, *ℤ-neg, neg-*ℤ}
+use Rattle.rule.proofs.Sizes.{factor_most, left_some, right_some, pow_some}
 use Rattle.rule.proofs.Parity.{odd_no, joins}
 use Rattle.rule.proofs.Fuel.{after_more, told_more}
 use Rattle.rule.proofs.Whole.{zero_yes}
@@ -254,7 +254,7 @@ negated_crossed true i j x y e = neg-*ℤ i y ∙ ap neg_ℤ e ∙ sym (neg-*ℤ
 
 negated_divides : (b : Bool) (d i : ℤ) → Divides d (negated_by b i) → Divides d i
 negated_divides false d i h = h
-negated_divides true d i h = record { quotient = neg_ℤ h.quotient; exact = sym (neg-neg i) ∙ ap neg_ℤ h.exact ∙ sym (*ℤ-neg d h.quotient) }
+negated_divides true d i h = record { quotient = neg_ℤ h.quotient; exact = sym (neg_ℤ-neg_ℤ i) ∙ ap neg_ℤ h.exact ∙ sym (*ℤ-neg d h.quotient) }
 
 negated_above : (b : Bool) (j : ℤ) → is_negative j ≡ b → (j ≢ pos 0) → pos 0 <ℤ negated_by b j
 negated_above true j e some = omega (arith, ints)
@@ -265,7 +265,7 @@ lowest : (x y i j : ℤ) (s : State ℤ) (b : Bool) → is_negative j ≡ b → 
     → Greatest (divisor s) x y → Reduced x y (negated_by b i) (negated_by b j)
 lowest x y i j s b f some e e' g =
     let k = s.a *ℤ pos (2 ^ s.twos) in
-    let size : unsigned_abs k ≡ divisor s = abs-mul s.a (pos (2 ^ s.twos)) in
+    let size : unsigned_abs k ≡ divisor s = unsigned_abs-mul s.a (pos (2 ^ s.twos)) in
     let j-some = right_some k j y e' some in
     let k-some = left_some k j y e' some in
     record {

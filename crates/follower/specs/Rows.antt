@@ -4,6 +4,7 @@ use Rattle.std.proofs.Common.{sym, ap, ap₂, ◌∙◌, subst, subst₂, inl, i
 use Rattle.std.proofs.Math.IntN.{+ℤ_comm}
 use Rattle.std.proofs.lemmas.Int.{ints}
 use Rattle.std.proofs.lemmas.Bool.{both_ways, or_parts, or_left, or_right, and_from}
+use mathlib.Core.Bool.{xor}
 use Rattle.rule.specs.Kind.{sign_by, summed}
 use Rattle.rule.specs.Pairs.{order_of, start_of}
 use Rattle.rule.specs.Rule.{State, command_by, command, obeyed, next, after, told}
@@ -13,7 +14,7 @@ use Rattle.rule.specs.declared.command.Sign.TheVariants.{Plus, Minus}
 use Rattle.rule.specs.declared.command.Command.{Command}
 use Rattle.rule.specs.declared.pair.AdmittedPair.{AdmittedPair}
 use Rattle.rule.proofs.Ring.{out, lin, *ℤ-unit}
-use Rattle.rule.proofs.Parity.{odd_no, odd_double, Joins, joins, xor, parity}
+use Rattle.rule.proofs.Parity.{odd_no, odd_double, Joins, joins, parity}
 use Rattle.rule.proofs.Fuel.{after_more, told_more}
 use Rattle.follower.specs.Following.{turned, table_at, Follows}
 use Rattle.follower.specs.Cofactor.{CofactorRows, first_rows, swapped, combined, corrected, evened, halved_row, in_range, row_fits, rows_take, rows_turn, cofactor_first, cofactor_accepts, cofactor_turns, CofactorRelated}
@@ -52,6 +53,7 @@ values_combined u v r g h = record { first = h.first; second = ident g r.c r.d r
 
 -- ---- the second row can be made even: a and b its entries, p and q the pair
 evens : (a b p q : Bool) → xor (a && p) (b && q) ≡ false → (p || q) ≡ true → (a || b) ≡ true → (xor a q ≡ false) × (xor b p ≡ false)
+unfolding xor
 evens a b p q h k l = grind arith
 
 value_even : (r : CofactorRows) (z : ℤ) → r.e *ℤ r.x +ℤ r.f *ℤ r.y ≡ z → odd z ≡ false → xor (odd r.e && odd r.x) (odd r.f && odd r.y) ≡ false

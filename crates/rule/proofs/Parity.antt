@@ -1,5 +1,6 @@
 -- Parity and halves of whole numbers, by a witness: what `odd`, `half` and `fourfold` tell.
 use Rattle.std.proofs.Common.{◌≡◌, Bool, true, false, ◌&&◌, ℤ, pos, ◌+ℤ◌, ◌*ℤ◌, neg_ℤ, refl, ◌∙◌, arith}
+use mathlib.Core.Bool.{xor}
 use lib.IntN.{*ℤ_comm}
 use Rattle.std.proofs.lemmas.Int.{ints}
 use Rattle.std.proofs.lemmas.Bool.Decides.{nat_tests}
@@ -35,13 +36,8 @@ joins x y true e f g = grind (arith, ints, nat_tests)
 joins x y false e f g = grind (arith, ints, nat_tests)
 
 -- ---- parity of sums and products, as booleans
-abbrev pub xor : Bool → Bool → Bool
-xor true true = false
-xor true false = true
-xor false q = q
-
 pub odd_add : (x y : ℤ) → odd (x +ℤ y) ≡ xor (odd x) (odd y)
-unfolding odd
+unfolding odd xor
 odd_add x y = grind (arith, ints, nat_tests)
 
 pub odd_neg : (x : ℤ) → odd (neg_ℤ x) ≡ odd x

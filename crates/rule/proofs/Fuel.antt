@@ -26,11 +26,6 @@ count-after k zero s = omega arith
 count-after k (suc m) s = omega (arith, count-after k m (next k s), count_next k s)
 
 -- ---- the need
-running_next : {K : Type 0} (k : Kind K) (s : State K) (m : ℕ) → k.is_zero s.b ≡ false → Running k (next k s) m → Running k s (suc m)
-unfolding after
-running_next k s m n h zero l = n
-running_next k s m n h (suc j) l = h j (omega arith)
-
 pub running_more : {K : Type 0} (k : Kind K) (s : State K) (m : ℕ) → Running k s m → k.is_zero (after k m s).b ≡ false → Running k s (suc m)
 running_more k s m h n j l = grind (arith, h j)
 
@@ -40,7 +35,7 @@ need_none k s e = grind arith
 
 pub need_more : {K : Type 0} (k : Kind K) (s : State K) (m : ℕ) → k.is_zero s.b ≡ false → Need k (next k s) m → Need k s (suc m)
 unfolding after
-need_more k s m n h = record { over = h.over; before = running_next k s m n h.before }
+need_more k s m n h = record { over = h.over; before = λ j l. grind (arith, h.before) }
 
 -- a state within the run of its need
 pub need_above : {K : Type 0} (k : Kind K) (s : State K) (m j : ℕ) → Need k s m → Running k s j → j ≤ m

@@ -1,11 +1,10 @@
 -- Whole numbers: the laws that the bound rests on, exact halvings, and how narrow a run stays.
-use Rattle.std.proofs.Common.{◌≡◌, ℕ, ◌^◌, ◌≤◌, Bool, true, false, ℤ, pos, ◌+ℤ◌, sym, refl, ap, arith, pow_mono}
+use Rattle.std.proofs.Common.{◌≡◌, ℕ, ◌^◌, ◌≤◌, true, ℤ, pos, ◌+ℤ◌, refl, arith, pow_mono}
 use lib.IntN.{+ℤ_comm}
-use lib.Signed.{le_z}
 use Rattle.std.proofs.lemmas.Int.{ints}
 use Rattle.std.proofs.lemmas.Bool.Decides.{nat_tests}
-use Rattle.rule.specs.Rule.{State, start, command_by, command, obeyed, next, after, Running}
-use Rattle.rule.specs.Whole.{is_zero, odd, fourfold, whole, Below, Exact}
+use Rattle.rule.specs.Rule.{start, command, next, after, Running}
+use Rattle.rule.specs.Whole.{is_zero, odd, half, fourfold, whole, Below}
 use Rattle.rule.specs.Theorems.{WholeIsLawful, HalvingsAreExact, NeedIsBounded, Narrow, RunIsNarrow}
 use Rattle.rule.proofs.Parity.{odd_no, joins}
 use Rattle.rule.proofs.Bound.{need_within, room_after}
@@ -26,16 +25,9 @@ whole_lawful =
     }
 
 -- ---- only even numbers are halved
-exact_by : (s : State ℤ) (p q x : Bool) → odd s.a ≡ p → odd s.b ≡ q → Exact (command_by p q (fourfold (s.a +ℤ s.b)) x) s (obeyed whole (command_by p q (fourfold (s.a +ℤ s.b)) x) s)
-exact_by s false false x e f = (sym (odd_no s.a e), sym (odd_no s.b f))
-exact_by s false true x e f = sym (odd_no s.a e)
-exact_by s true false x e f = sym (odd_no s.b f)
-exact_by s true true false e f = (joins s.a s.b (fourfold (s.a +ℤ s.b)) e f refl).twice
-exact_by s true true true e f = (joins s.b s.a (fourfold (s.a +ℤ s.b)) f e (ap fourfold (+ℤ_comm s.b s.a))).twice
-
 pub halvings_exact : HalvingsAreExact
-unfolding next command
-halvings_exact s = exact_by s (odd s.a) (odd s.b) (le_z (pos 0) s.δ) refl refl
+unfolding next command odd half fourfold
+halvings_exact s = grind (arith, ints, nat_tests)
 
 -- ---- the bound and the widths
 pub need_bounded : NeedIsBounded

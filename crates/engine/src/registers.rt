@@ -20,7 +20,7 @@ pub struct Registers {
     pub count: u16,
 }
 
-// Half of a + b or of a - b.
+// Half of a + b or of a - b. The followers' sum is not shared with it, since a public call may not ask that a sum fits.
 fn joined(sign: Sign, a: i64, b: i64) -> i64
     requires { (unsigned_abs a < 2 ^ 56) × (unsigned_abs b < 2 ^ 56) }
     ensures { result ≡ half (summed whole sign a b) }
@@ -43,7 +43,7 @@ impl Registers {
         }
     }
 
-    // a and b change places where the mark is set.
+    // a and b change places where the mark is set. A call shared with the followers' swap of rows would be no shorter.
     pub(crate) fn exchanged(self, exchange: bool) -> Registers
         ensures { state_of result ≡ exchanged exchange (state_of self) }
     {

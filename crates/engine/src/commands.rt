@@ -1,14 +1,13 @@
 // A list of commands, with room for the longest run there is. Its calls are in commands/calls.rt.
-ghost use Rattle.std.specs.Prelude.{◌≡◌, ◌≤◌, length};
+ghost use Rattle.std.specs.Prelude.{◌≤◌, length};
 
+use arrayvec::ArrayVec;
 use rule::command::Command;
 
-#[derive(Drop)]
+#[derive(PartialEq, Eq, Debug, Drop)]
 pub struct Commands {
-    slots: [Command; 225],
-    len: usize,
-    ghost few: { len ≤ 225 },
-    ghost long: { length slots ≡ 225 },
+    list: ArrayVec<Command, 225>,
+    ghost few: { length list.items ≤ 225 },
 }
 
 mod calls;

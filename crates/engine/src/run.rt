@@ -3,7 +3,7 @@ use crate::commands::Commands;
 use rule::pair::AdmittedPair;
 
 // The pair of a run, the commands that were told, and what it ended with.
-#[derive(Drop)]
+#[derive(PartialEq, Eq, Debug, Drop)]
 pub struct Run {
     pub pair: AdmittedPair,
     pub commands: Commands,

@@ -11,8 +11,9 @@ pub enum Sign {
 }
 
 // What one turn of the rule does; `exchange` says that a and b first change places.
-#[derive(Clone, Copy, PartialEq, Eq, Debug)]
+#[derive(Clone, Copy, PartialEq, Eq, Debug, Default)]
 pub enum Command {
+    #[default]
     Both,
     Cross,
     Shift,

@@ -3,6 +3,7 @@ ghost use Rattle.std.specs.Prelude.{◌≡◌, ◌<◌, [], ◌∷◌, ◌++◌,
 ghost use Rattle.engine.specs.Listed.{listed};
 
 use super::Commands;
+use arrayvec::ArrayVec;
 use rule::command::Command;
 
 impl Commands {
@@ -11,21 +12,20 @@ impl Commands {
         ensures { listed result ≡ [] }
     {
         Commands {
-            slots: [Command::Both; 225],
-            len: 0,
+            list: ArrayVec::new(),
         }
     }
 
     pub fn as_slice(&self) -> &[Command]
         ensures { result.now ≡ listed self.now }
     {
-        &self.slots[0..self.len]
+        self.list.as_slice()
     }
 
     pub fn len(&self) -> usize
         ensures { result ≡ length (listed self.now) }
     {
-        self.as_slice().len()
+        self.list.len()
     }
 
     // One command more, where there is room.
@@ -33,8 +33,6 @@ impl Commands {
         requires { length (listed self.old) < 225 }
         ensures { listed self.new ≡ listed self.old ++ command ∷ [] }
     {
-        let at = self.len;
-        self.slots[at] = command;
-        self.len = at + 1;
+        self.list.push(command);
     }
 }

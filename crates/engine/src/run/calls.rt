@@ -10,7 +10,7 @@ use crate::engine::Engine;
 use rule::fault::Fault;
 use rule::pair::AdmittedPair;
 
-// |a| · 2^twos
+// |a| · 2^twos. No crate shares it, since a public call may not ask that it fits.
 fn divisor(a: i64, twos: u16) -> u64
     requires { (unsigned_abs a * 2 ^ twos < 2 ^ 56) × (twos < 64) }
     ensures { result ≡ unsigned_abs a * 2 ^ twos }

@@ -1,11 +1,7 @@
 // What the word engine does.
-ghost use Rattle.std.specs.Prelude.{◌≡◌, false};
-ghost use Rattle.rule.specs.Pairs.{start_of};
-ghost use Rattle.rule.specs.Rule.{command, next};
-ghost use Rattle.rule.specs.Whole.{is_zero, whole};
-ghost use Rattle.engine.specs.Meaning.{idle};
+ghost use Rattle.std.specs.Prelude.{◌≡◌};
+ghost use Rattle.engine.specs.Meaning.{idle, a_of, delta_of, twos_of, count_of};
 ghost use Rattle.engine.specs.WordMeaning.{word_meaning};
-ghost use Rattle.engine.specs.Words.{state_of};
 ghost use Rattle.std.proofs.Common.{rules};
 
 use super::{Held, WordEngine};
@@ -16,49 +12,22 @@ use rule::fault::{Fault, Layer, Reason};
 use rule::order::Order;
 use rule::pair::AdmittedPair;
 
-impl Held {
-    // The start of the run of a pair.
-    fn start(pair: AdmittedPair) -> Held
-        ensures order { result.order ≡ pair.order }
-        ensures state { state_of result.registers ≡ start_of pair }
-    {
-        Held {
-            order: pair.order(),
-            registers: Registers {
-                a: pair.a(),
-                b: pair.b(),
-                delta: 0,
-                twos: 0,
-                count: 0,
-            },
-        }
-    }
-
-    // The command that is due, and the place on the run after it.
-    fn step(self) -> (Command, Held)
-        requires { is_zero self.registers.b ≡ false }
-        ensures command { result.0 ≡ command whole (state_of self.registers) }
-        ensures order { result.1.order ≡ self.order }
-        ensures state { state_of result.1.registers ≡ next whole (state_of self.registers) }
-    {
-        let command = self.registers.command();
-        let registers = self.registers.obeyed(command);
-        (
-            command,
-            Held {
-                order: self.order,
-                registers,
-            },
-        )
-    }
-}
-
 impl WordEngine {
     // An idle engine.
     pub fn new() -> WordEngine
         ensures { word_meaning result ≡ idle }
     {
         WordEngine { held: None }
+    }
+
+    // The registers, which are 0 where nothing is held.
+    fn registers(&self) -> Registers
+        ensures a { result.a ≡ a_of (word_meaning self.now) }
+        ensures delta { result.delta ≡ delta_of (word_meaning self.now) }
+        ensures twos { result.twos ≡ twos_of (word_meaning self.now) }
+        ensures count { result.count ≡ count_of (word_meaning self.now) }
+    {
+        self.held.map(|held| held.registers).unwrap_or_default()
     }
 }
 
@@ -82,11 +51,9 @@ impl Engine for WordEngine {
     }
 
     fn advance(&mut self) -> Result<Command, Fault> {
-        let Some(held) = self.held else {
-            return Err(Fault::new(Reason::NothingHeld, Layer::Engine, 0));
-        };
+        let held = self.held.ok_or(Reason::NothingHeld.by(Layer::Engine))?;
         if held.registers.b == 0 {
-            return Err(Fault::new(Reason::RunOver, Layer::Engine, 0));
+            return Err(Reason::RunOver.by(Layer::Engine));
         }
         let (command, next) = held.step();
         self.held = Some(next);
@@ -98,37 +65,22 @@ impl Engine for WordEngine {
     }
 
     fn is_over(&self) -> bool {
-        match self.held {
-            Some(held) => held.registers.b == 0,
-            None => false,
-        }
+        self.held.is_some_and(|held| held.registers.b == 0)
     }
 
     fn a(&self) -> i64 {
-        match self.held {
-            Some(held) => held.registers.a,
-            None => 0,
-        }
+        self.registers().a
     }
 
     fn delta(&self) -> i16 {
-        match self.held {
-            Some(held) => held.registers.delta,
-            None => 0,
-        }
+        self.registers().delta
     }
 
     fn twos(&self) -> u16 {
-        match self.held {
-            Some(held) => held.registers.twos,
-            None => 0,
-        }
+        self.registers().twos
     }
 
     fn count(&self) -> u16 {
-        match self.held {
-            Some(held) => held.registers.count,
-            None => 0,
-        }
+        self.registers().count
     }
 }

@@ -1,11 +1,11 @@
-use Rattle.std.proofs.Common.{w64, SFits, rules}
-use Rattle.std.proofs.lemmas.Int.{to_z-of_z}
-use Rattle.rule.proofs.Reached.{reached_start}
+use Rattle.rule.specs.Reached.{Reached}
+use Rattle.rule.proofs.Reached.{reached_start, narrow_word}
+use Rattle.engine.specs.Words.{state_of}
 use Rattle.engine.proofs.word.Held.start.Goals as goal
 
 pub invariant_of-result : goal.invariant_of-result
 invariant_of-result c =
     let p = c.args.pair in
-    let f : SFits w64 c.a.result = search rules in
-    let g : SFits w64 c.b.result = search rules in
-    simp to_z-of_z (simp (c.a.ensures, c.b.ensures, c.order.ensures) (record { reached = ∣ reached_start p.order.value p.a p.b p.admitted ∣₁ }))
+    let o = c.order.result in
+    let r : ∥ Reached o.value (state_of c.start.result) ∥₁ = rw (c.order.ensures, c.start.ensures) (∣ reached_start p.order.value p.a p.b p.admitted ∣₁) in
+    record { reached = r; narrow = narrow_word o.value (state_of c.start.result) o.admitted.1 r }

@@ -1,27 +1,21 @@
-use Rattle.std.proofs.Common.{sym, refl, subst}
+use Rattle.std.proofs.Common.{◌≡◌}
 use mathlib.Core.Logic.{∥∥₁_map}
 use Rattle.rule.specs.Reached.{Reached}
-use Rattle.rule.proofs.Reached.{reached_next}
+use Rattle.rule.specs.Rule.{next}
+use Rattle.rule.specs.Whole.{whole}
+use Rattle.rule.proofs.Reached.{reached_next, narrow_word}
 use Rattle.engine.specs.Words.{state_of}
-use Rattle.engine.proofs.Words.{held_narrow, obeyed-next}
 use Rattle.engine.proofs.word.Held.step.Goals as goal
 
-pub command-command-requires : goal.command-command-requires
-command-command-requires c = held_narrow c.args.self
+pub returns-clause-state : goal.returns-clause-state
+unfolding next
+returns-clause-state c = cc
 
-pub obeyed-registers-requires : goal.obeyed-registers-requires
-obeyed-registers-requires c = held_narrow c.args.self
-
-pub invariant_of-result : goal.invariant_of-result
-invariant_of-result c =
+pub invariant_of-next : goal.invariant_of-next
+unfolding next
+invariant_of-next c =
     let h = c.args.self in
-    let e = obeyed-next h.registers c.obeyed-registers.result c.command-command.result c.command-command.ensures c.obeyed-registers.ensures in
-    record { reached = ∥∥₁_map h.reached (λ r. subst (Reached h.order.value) (sym e) (reached_next h.order.value (state_of h.registers) c.requires r)) }
-
-pub returns : goal.returns
-returns c =
-    record {
-      command = c.command-command.ensures;
-      order = refl;
-      state = obeyed-next c.args.self.registers c.obeyed-registers.result c.command-command.result c.command-command.ensures c.obeyed-registers.ensures;
-    }
+    let s = state_of h.registers in
+    let e : state_of c.obeyed.result ≡ next whole s = cc in
+    let r : ∥ Reached h.order.value (state_of c.obeyed.result) ∥₁ = rw e (∥∥₁_map h.reached (reached_next h.order.value s c.requires)) in
+    record { reached = r; narrow = narrow_word h.order.value (state_of c.obeyed.result) h.order.admitted.1 r }

@@ -1,6 +1,6 @@
 use Rattle.std.proofs.Common.{rules}
 use Rattle.rule.specs.Rule.{command}
-use Rattle.engine.proofs.registers.Registers.command.Goals as goal
+use Rattle.engine.proofs.word.Held.command.Goals as goal
 
 pub returns : goal.returns
 unfolding command

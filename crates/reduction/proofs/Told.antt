@@ -45,11 +45,11 @@ takes_next first accepts turns relation follows p cs i d t run running l e =
 -- a command that is taken is not refused
 pub taken_ok : {T : Type 0} (accepts : T → Command → Bool) (turns : T → Command → T) (t t' : T) (d : Command) (r : Result (Unit {0}) Fault) → Followed accepts turns t d r t' → accepts t d ≡ true → IsOk r
 taken_ok accepts turns t t' d (Ok _) h e = refl
-taken_ok accepts turns t t' d (Err f) h e = absurd (both_ways _ h.0 e)
+taken_ok accepts turns t t' d (Err f) h e = grind arith
 
 -- one that is not refused turns the table
 pub taken_turns : {T : Type 0} (accepts : T → Command → Bool) (turns : T → Command → T) (t t' : T) (d : Command) (r : Result (Unit {0}) Fault) (x : Unit {0}) → Followed accepts turns t d r t' → r ≡ Ok x → t' ≡ turns t d
-taken_turns accepts turns t t' d r x h e = (subst (λ q. Followed accepts turns t d q t') e h).1
+taken_turns accepts turns t t' d r x h e = grind arith
 
 -- one command more
 pub turned_next : {T : Type 0} (turns : T → Command → T) (t₀ t t' : T) (cs : List Command) (i : ℕ) (d : Command) → i < length cs → t ≡ turned turns t₀ (take i cs) → t' ≡ turns t (get_or cs i d) → t' ≡ turned turns t₀ (take (i + 1) cs)

@@ -1,7 +1,6 @@
 -- The end of a whole run, of which a reduction is read out.
-use Rattle.std.proofs.Common.{◌≡◌, Some, None, Option, refl, arith}
+use Rattle.std.proofs.Common.{◌≡◌, Some, Option, arith}
 use Rattle.std.specs.Option.{IsSome}
-use Rattle.std.proofs.lemmas.Bool.{both_ways}
 use Rattle.rule.specs.declared.pair.AdmittedPair.{AdmittedPair}
 use Rattle.frame.specs.declared.reduction.Reduction.{Reduction}
 use Rattle.engine.specs.Meaning.{Meaning}
@@ -18,8 +17,7 @@ along_finished p r m t f e = assumption
 
 -- there is something to read out
 pub reads_finished : (p : AdmittedPair) (r : Run) (m : Meaning) (o : Option Reduction) → Finished p r m → ReadsOut p (spent r) o → IsSome o
-reads_finished p r m (Some n) f reads = refl
-reads_finished p r m None f reads = grind arith
+reads_finished p r m o f reads = grind arith
 
 -- and it is what the run ends with
 pub right_finished : (p : AdmittedPair) (r : Run) (m : Meaning) (n : Reduction) → Finished p r m → ReadsOut p (spent r) (Some n) → Right p r n

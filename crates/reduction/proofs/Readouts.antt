@@ -1,5 +1,5 @@
 -- What is read out at the end of a run is there, fits, and is right.
-use Rattle.std.proofs.Common.{◌≡◌, ℕ, ◌*◌, ◌^◌, ◌<◌, ◌≤◌, true, ℤ, nat_abs, Some, None, Option, sym, refl, ap, ◌∙◌, subst, arith, pow_mono}
+use Rattle.std.proofs.Common.{◌≡◌, ℕ, ◌^◌, ◌<◌, ◌≤◌, true, ℤ, Some, None, Option, sym, refl, ap, ◌∙◌, subst, arith, pow_mono}
 use Rattle.std.proofs.lemmas.Bool.Decides.{nat_tests}
 use Rattle.rule.specs.Divisor.{Greatest, divisor}
 use Rattle.rule.specs.Pairs.{order_of, start_of}
@@ -104,8 +104,7 @@ result_of p k m c t e z f q n a scale cofactors ratio order count twos same-f sa
     let r = e.reads in
     let g : n.g ≡ divisor (state_at p k) = cc in
     let fs : ◌≡◌ {A = Cofactors} (record { u = n.u; v = n.v }) r.f = cc in
-    let qs : ◌≡◌ {A = Ratio} (record { numerator = n.numerator; denominator = n.denominator }) r.q = cc in
-    (
+    let qs : ◌≡◌ {A = Ratio} (record { numerator = n.numerator; denominator = n.denominator }) r.q = cc in (
       e.over,
       record { order = order; count = cc; twos = cc; g = g; cofactors = cc; ratio = cc },
       record {

@@ -1,4 +1,4 @@
-use Rattle.std.proofs.Common.{◌≡◌, sym, ap, ◌∙◌, w64, SFits, to_z, of_z, rules, arith}
+use Rattle.std.proofs.Common.{sym, ◌∙◌, w64, SFits, to_z, of_z, rules, arith}
 use Rattle.std.proofs.lemmas.Int.{to_z-of_z}
 use Rattle.reduction.proofs.Readouts.{fitting_fits, result_of, ended}
 use Rattle.reduction.proofs.readout.read_out.Goals as goal

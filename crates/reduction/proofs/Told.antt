@@ -1,6 +1,5 @@
 -- The commands of a run, by their places, and a follower that is told them.
-use Rattle.std.proofs.Common.{◌≡◌, ℕ, zero, suc, ◌+◌, ◌<◌, ◌≤◌, Bool, true, List, ◌∷◌, length, get_or, take, ℤ, Ok, Err, Result, sym, refl, ap, ◌∙◌, subst, subst₂, arith}
-use Rattle.std.proofs.lemmas.Bool.{both_ways}
+use Rattle.std.proofs.Common.{◌≡◌, ℕ, zero, suc, ◌+◌, ◌<◌, ◌≤◌, Bool, true, List, ◌∷◌, length, get_or, take, ℤ, Ok, Result, refl, ap, ◌∙◌, arith}
 use Rattle.std.proofs.lemmas.List.{take_more}
 use Rattle.std.specs.Result.{IsOk}
 use Rattle.rule.specs.Kind.{Kind}
@@ -38,20 +37,16 @@ pub takes_next : {T : Type 0} (first : AdmittedPair → T) (accepts : T → Comm
     → t ≡ turned turns (first p) (take i cs) → accepts t (get_or cs i d) ≡ true
 takes_next first accepts turns relation follows p cs i d t run running l e =
     let h = (follows p i (λ j q. running j (omega arith))).takes (running i l) in
-    subst₂ (λ x c. accepts x c ≡ true)
-    (sym (e ∙ ap (turned turns (first p)) (run_take p cs i run (omega arith))))
-    (sym (run-get p cs i d run l)) h
+    grind (arith, h, run_take p cs i run (omega arith), run-get p cs i d run l)
 
 -- a command that is taken is not refused
 pub taken_ok : {T : Type 0} (accepts : T → Command → Bool) (turns : T → Command → T) (t t' : T) (d : Command) (r : Result (Unit {0}) Fault) → Followed accepts turns t d r t' → accepts t d ≡ true → IsOk r
-taken_ok accepts turns t t' d (Ok _) h e = refl
-taken_ok accepts turns t t' d (Err f) h e = absurd (both_ways _ h.0 e)
+taken_ok accepts turns t t' d r h e = grind arith
 
 -- one that is not refused turns the table
 pub taken_turns : {T : Type 0} (accepts : T → Command → Bool) (turns : T → Command → T) (t t' : T) (d : Command) (r : Result (Unit {0}) Fault) (x : Unit {0}) → Followed accepts turns t d r t' → r ≡ Ok x → t' ≡ turns t d
-taken_turns accepts turns t t' d r x h e = (subst (λ q. Followed accepts turns t d q t') e h).1
+taken_turns accepts turns t t' d r x h e = grind arith
 
 -- one command more
 pub turned_next : {T : Type 0} (turns : T → Command → T) (t₀ t t' : T) (cs : List Command) (i : ℕ) (d : Command) → i < length cs → t ≡ turned turns t₀ (take i cs) → t' ≡ turns t (get_or cs i d) → t' ≡ turned turns t₀ (take (i + 1) cs)
-turned_next turns t₀ t t' cs i d l e f =
-    f ∙ ap (λ x. turns x (get_or cs i d)) e ∙ sym (turned_more turns t₀ (take i cs) (get_or cs i d)) ∙ ap (turned turns t₀) (sym (take_more cs i d l))
+turned_next turns t₀ t t' cs i d l e f = grind (arith, turned_more turns t₀ (take i cs) (get_or cs i d), take_more cs i d l)

@@ -1,5 +1,6 @@
 -- What a unit that holds a pair gives of its result.
 use Rattle.std.proofs.Common.{◌≡◌, ℕ, zero, suc, ◌+◌, List, length, drop, Some, None, Ok, Err, Option, Result, sym, ap, ◌∙◌, subst, arith, length-append}
+use Rattle.std.proofs.lemmas.Option.{none-some, same_Some}
 use Rattle.rule.specs.Pairs.{start_of}
 use Rattle.rule.specs.Rule.{Running, Need}
 use Rattle.rule.specs.Whole.{whole}
@@ -13,7 +14,6 @@ use Rattle.unit.specs.Answers.{refusal, WritesIfRoom, CollectsFrom, CollectAnswe
 use Rattle.reduction.specs.Followers.{Tables, first_tables, next_tables}
 use Rattle.reduction.specs.Results.{Along, ReadsOut}
 use Rattle.unit.specs.Standing.{Contents, Standing, empty, holds, Stands}
-use Rattle.reduction.proofs.Readouts.{some_same, some_none}
 use Rattle.unit.proofs.Works.{left_of, left_some}
 
 -- a buffer keeps its length, so that what was written had room in it
@@ -37,8 +37,8 @@ collects_from p k None before after r running z w = by (left_of p k running).0 (
     by (suc left) n = record { left = suc left; need = n; answer = w }
 
 pub collects : (s : Standing) (c : Contents Tables) (q : AdmittedPair) (o : Option Reduction) (before after : List ℕ) (r : Result ℕ Fault) → c.pair ≡ Some q → ((k : ℕ) → Along first_tables next_tables q k c.engine c.table → ReadsOut q k o) → Written o before r after → Stands first_tables next_tables s c → CollectAnswer s before r after
-collects empty c q o before after r e reads written stands = absurd (some_none (sym e ∙ stands))
+collects empty c q o before after r e reads written stands = absurd (none-some _ (sym stands ∙ e))
 collects (holds p k) c q o before after r e reads written stands =
-    let same = some_same (sym e ∙ stands.pair) in
+    let same = same_Some _ _ (sym e ∙ stands.pair) in
     let all = subst (λ x. (k : ℕ) → Along first_tables next_tables x k c.engine c.table → ReadsOut x k o) same reads in
     collects_from p k o before after r stands.along.running (all k stands.along) written

@@ -26,5 +26,5 @@ returns c =
     reading_headed s o.value a b (search rules) (search rules) (search rules)
     (c.read_operands-a.ensures.a ∙ ap signed_value (ap₂ take c.width.ensures (take_rest s 5)))
     (c.read_operands-a.ensures.b ∙ ap signed_value (ap₂ drop c.width.ensures (take_rest s 5))) in
-    let reads = reads_admitted s o _ _ c.new-2.result (simp to_z-of_z headed) c.new-2.ensures in
-    record { reads = reads; unique = framed s c.new-2.result (λ i. (c.type_inv.bytes i).fits) reads }
+    let reads = reads_admitted s o _ _ c.new.result (simp to_z-of_z headed) c.new.ensures in
+    record { reads = reads; unique = framed s c.new.result (λ i. (c.type_inv.bytes i).fits) reads }

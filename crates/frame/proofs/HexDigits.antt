@@ -1,11 +1,12 @@
 -- Hexadecimal text, two digits at a time.
-use Rattle.std.proofs.Common.{◌≡◌, ℕ, ◌+◌, ◌*◌, ◌/◌, ◌%◌, ◌^◌, ◌-◌, ◌<◌, ◌≤◌, cond, ltb, List, [], ◌∷◌, ◌++◌, length, get_or, take, false, Some, None, Option, sym, refl, ap, ◌∙◌, ap₂, ⊎_elim, arith}
+use Rattle.std.proofs.Common.{◌≡◌, ℕ, ◌+◌, ◌*◌, ◌/◌, ◌%◌, ◌^◌, ◌-◌, ◌<◌, cond, ltb, List, [], ◌∷◌, ◌++◌, length, get_or, take, false, Some, None, Option, sym, refl, ap, ◌∙◌, ap₂, arith}
 use Rattle.frame.specs.Theorems.{HexIsReadBack}
 use Rattle.std.specs.Fmt.{digits, format_spec, padded_integral}
 use Rattle.std.proofs.lemmas.Fmt.{hex_byte}
-use Rattle.std.specs.Char.{digit_char, digit_value}
+use Rattle.std.specs.Char.{digit_char}
 use Rattle.std.proofs.lemmas.List.{append_assoc, append-nil, take_more}
-use Rattle.std.proofs.lemmas.Bool.{lt-ltb, le-ltb, cases_lt}
+use Rattle.std.proofs.lemmas.Bool.{lt-ltb}
+use Rattle.std.proofs.lemmas.Str.{digit_value-digit_char}
 use Rattle.frame.specs.Hex.{hex_text, hex_digit, hex_byte as byte_of, HexReading, good, bad, after, byte_then, hex_reading}
 use Rattle.frame.specs.declared.hex.HexFault.TheVariants.{OddLength, NotADigit}
 
@@ -49,20 +50,8 @@ text_more bs i h s =
     ap (λ l. hex_text (take i bs) ++ l) (hex_byte false x s) ∙ sym (hex_text-push (take i bs) x) ∙ ap hex_text (sym (take_more bs i 0 h))
 
 -- ---- text that was written is read back
-low_value : (d : ℕ) → d < 10 → digit_value (48 + d) ≡ d
-low_value d h = rw (le-ltb (48 + d) 48 (omega arith), lt-ltb (48 + d) 58 (omega arith)) (omega arith)
-
-high_value : (d : ℕ) → 10 ≤ d → d < 16 → digit_value (87 + d) ≡ d
-high_value d l h = rw (le-ltb (87 + d) 48 (omega arith), le-ltb (87 + d) 58 (omega arith), le-ltb (87 + d) 65 (omega arith), le-ltb (87 + d) 91 (omega arith), le-ltb (87 + d) 97 (omega arith), lt-ltb (87 + d) 123 (omega arith)) (omega arith)
-
 digit_back : (d : ℕ) → d < 16 → hex_digit (digit_char d) ≡ Some d
-digit_back d h =
-    let known : digit_value (digit_char d) ≡ d =
-    ⊎_elim
-    (λ l. ap digit_value (let s : digit_char d ≡ 48 + d = rw (lt-ltb d 10 l) in s) ∙ low_value d l)
-    (λ l. ap digit_value (let s : digit_char d ≡ 87 + d = rw (le-ltb d 10 l) in s) ∙ high_value d l h)
-    (cases_lt d 10) in
-    ap (λ v. cond (ltb v 16) (Some v) None) known ∙ rw (lt-ltb d 16 h) refl
+digit_back d h = ap (λ v. cond (ltb v 16) (Some v) None) (digit_value-digit_char d (omega arith)) ∙ rw (lt-ltb d 16 h) refl
 
 pub hex_read_back : HexIsReadBack
 unfolding hex_text hex_reading

@@ -26,7 +26,7 @@ appended_high i x z h l = let e = pow_next i in omega (arith, ints)
 
 pub signed_value-first : (xs : List ℕ) → 1 ≤ length xs → signed_value xs ≡ signed_from (sign_byte (get_or xs 0 0)) (take (length xs - 1) (drop 1 xs))
 unfolding signed_value
-signed_value-first [] h = absurd (let q : ◌≡◌ {A = ℕ} 0 1 = omega arith in omega arith)
+signed_value-first [] h = absurd (omega arith)
 signed_value-first (x ∷ xs) h = ap (signed_from (sign_byte x)) (sym (take_rest (x ∷ xs) 1))
 
 -- ---- low byte and the rest

@@ -1,5 +1,5 @@
 // Bytes to hexadecimal text and back, two digits for each byte.
-ghost use Rattle.std.specs.Prelude.{◌≡◌, ◌<◌, Ok, Err, Some, string_bytes};
+ghost use Rattle.std.specs.Prelude.{◌≡◌, Ok, Err, Some, string_bytes};
 ghost use Rattle.frame.specs.Hex.{Wrong, good, hex_byte, hex_digit, hex_reading, hex_text, sentence};
 ghost use Rattle.frame.specs.declared.hex.HexFault.TheVariants.{NoMemory};
 
@@ -38,6 +38,7 @@ impl fmt::Display for HexFault {
 
 impl Error for HexFault {}
 
+// A byte that found no room.
 impl<T: Drop> From<AllocFailed<T>> for HexFault {
     ghost from_gives = { λ _ fault. fault ≡ NoMemory };
 
@@ -66,10 +67,10 @@ pub fn bytes_of(heap: Global, text: &str) -> Result<Vec<u8>, HexFault>
 {
     let mut bytes = Vec::new(heap);
     for pair in text.as_bytes().chunks(2) {
-        let [high, low] = pair else {
+        let &[high, low] = pair else {
             return Err(HexFault::OddLength);
         };
-        bytes.push(byte(*high, *low).ok_or(HexFault::NotADigit)?)?;
+        bytes.push(byte(high, low).ok_or(HexFault::NotADigit)?)?;
     }
     Ok(bytes)
 }

@@ -7,7 +7,7 @@ use Rattle.frame.specs.Frames.{pair_frame, frame_of}
 use Rattle.frame.specs.Cut.{piece_length, Cuts, Pieces, Gives}
 use Rattle.frame.specs.declared.cut.Frames.{Frames}
 use Rattle.frame.specs.Theorems.{PiecesOfInput, PiecesAreWhole, FrameIsCutOff, FramesAreCutBack}
-use Rattle.frame.proofs.Writing.{length-pair_frame}
+use Rattle.frame.proofs.Writing.{pair_frame_length}
 
 -- ---- the first piece
 piece_fits : (input : List ℕ) → piece_length input ≤ length input
@@ -63,7 +63,7 @@ given_pieces s (piece ∷ given) (u, (t, (j, step, more), none)) = (j.rest.now, 
 
 -- ---- frames
 frame_length : (n : ℕ) (a b : ℤ) (rest : List ℕ) → length (pair_frame n a b) ≡ piece_length (pair_frame n a b ++ rest)
-frame_length n a b rest = omega (arith, length-pair_frame n a b, length-append (pair_frame n a b) rest)
+frame_length n a b rest = omega (arith, pair_frame_length n a b, length-append (pair_frame n a b) rest)
 
 pub frame_cut_off : FrameIsCutOff
 frame_cut_off n a b rest =

@@ -8,7 +8,7 @@ use Rattle.rule.specs.declared.fault.Reason.TheVariants.{LengthDiffers, WrongVer
 use Rattle.rule.specs.declared.order.Order.{Order}
 use Rattle.rule.specs.declared.pair.AdmittedPair.{AdmittedPair}
 use Rattle.frame.specs.Numbers.{word, signed_value}
-use Rattle.frame.specs.Reading.{read, refused, unless, or_else, head_objection, then, checked, reading, Reads}
+use Rattle.frame.specs.Reading.{read, unless, or_else, head_objection, then, checked, reading, Reads}
 
 -- a frame with a good head is read as its operands say
 pub reading_headed : (bs : List ℕ) (n : ℕ) (a b : ℤ) → 5 ≤ length bs → word (get_or bs 3 0) (get_or bs 4 0) ≡ n → head_objection (word (get_or bs 0 0) (get_or bs 1 0)) (get_or bs 2 0) n (length (drop 5 bs)) ≡ None → a ≡ signed_value (take (width n) (drop 5 bs)) → b ≡ signed_value (drop (width n) (drop 5 bs)) → reading bs ≡ then (pair_objection n a b) (read n a b)
@@ -23,20 +23,6 @@ reading_headed (p ∷ q ∷ r ∷ s ∷ t ∷ ops) n a b h m o x y =
     let w = signed_value (drop k ops) in
     ap (λ i. checked (word p q) r i ops) m ∙ ap (λ i. then i (then (pair_objection n u w) (read n u w))) o ∙ ap₂ (λ i j. then (pair_objection n i j) (read n i j)) (sym x) (sym y)
 
--- and one with a bad head is refused
-pub reading_refused : (bs : List ℕ) (f : Fault) (len n filled : ℕ) → 5 ≤ length bs → len ≡ word (get_or bs 0 0) (get_or bs 1 0) → n ≡ word (get_or bs 3 0) (get_or bs 4 0) → filled ≡ length (drop 5 bs) → head_objection len (get_or bs 2 0) n filled ≡ Some f → reading bs ≡ refused f
-reading_refused [] f len n filled h l m k o = absurd (omega arith)
-reading_refused (p ∷ []) f len n filled h l m k o = absurd (omega arith)
-reading_refused (p ∷ q ∷ []) f len n filled h l m k o = absurd (omega arith)
-reading_refused (p ∷ q ∷ r ∷ []) f len n filled h l m k o = absurd (omega arith)
-reading_refused (p ∷ q ∷ r ∷ s ∷ []) f len n filled h l m k o = absurd (omega arith)
-reading_refused (p ∷ q ∷ r ∷ s ∷ t ∷ ops) f len n filled h l m k o =
-    let i = word s t in
-    let u = signed_value (take (width i) ops) in
-    let w = signed_value (drop (width i) ops) in
-    let e : head_objection (word p q) r i (length ops) ≡ Some f = rw (← l, ← m, ← k) o in
-    ap (λ x. then x (then (pair_objection i u w) (read i u w))) e
-
 -- a good head says how many bytes its operands have
 pub head_filled : (len version n filled : ℕ) → head_objection len version n filled ≡ None → (len ≡ 3 + filled) × (version ≡ 1) × (filled ≡ 2 * width n)
 head_filled len version n filled e =
@@ -48,13 +34,13 @@ head_filled len version n filled e =
   where
     unless_none : (t : Bool) (r : Reason) (p : ℕ) → unless t r p ≡ None → t ≡ true
     unless_none true r p e = refl
-    unless_none false r p e = absurd (let z : ◌≡◌ {A = ℕ} 0 1 = cc in omega arith)
+    unless_none false r p e = cc
 
     clear : (i j k l : Option Fault) → or_else i (or_else j (or_else k l)) ≡ None → (i ≡ None) × (j ≡ None) × (l ≡ None)
     clear None None None l e = (refl, refl, e)
-    clear (Some f) j k l e = absurd (let z : ◌≡◌ {A = ℕ} 0 1 = cc in omega arith)
-    clear None (Some f) k l e = absurd (let z : ◌≡◌ {A = ℕ} 0 1 = cc in omega arith)
-    clear None None (Some f) l e = absurd (let z : ◌≡◌ {A = ℕ} 0 1 = cc in omega arith)
+    clear (Some f) j k l e = cc
+    clear None (Some f) k l e = cc
+    clear None None (Some f) l e = cc
 
 -- what is admitted is what is read
 pub reads_admitted : (bs : List ℕ) (o : Order) (a b : ℤ) (r : Result AdmittedPair Fault) → reading bs ≡ then (pair_objection o.value a b) (read o.value a b) → AdmitsPair o a b r → Reads bs r

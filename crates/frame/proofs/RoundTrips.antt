@@ -57,8 +57,8 @@ record Clear (o : Option Fault) (m n : ℕ) (x y a b : ℤ) : Type 0 where
 
 clear : (o p : Option Fault) (m n : ℕ) (x y a b : ℤ) → then o (then p (read m x y)) ≡ read n a b → Clear o m n x y a b
 clear None None m n x y a b e = record { head = refl; order = cc; first = cc; second = cc }
-clear (Some f) p m n x y a b e = absurd (let z : ◌≡◌ {A = ℕ} 0 1 = cc in omega arith)
-clear None (Some f) m n x y a b e = absurd (let z : ◌≡◌ {A = ℕ} 0 1 = cc in omega arith)
+clear (Some f) p m n x y a b e = cc
+clear None (Some f) m n x y a b e = cc
 
 operand_bytes : (k : ℕ) (xs : List ℕ) (z : ℤ) → length xs ≡ k → AllByRecursion (λ x. x < 256) xs → signed_value xs ≡ z → signed_bytes k z ≡ xs
 operand_bytes k xs z l h e = ap₂ signed_bytes (sym l) (sym e) ∙ bytes_of_value xs h
@@ -84,11 +84,11 @@ checked_unique p q v s t ops n a b h e =
     there ∙ ap (λ i. pair_frame i a b) c.order
 
 pub frame_unique : FrameIsUnique
-frame_unique [] n a b h e = absurd (let z : ◌≡◌ {A = ℕ} 0 1 = cc in omega arith)
-frame_unique (p ∷ []) n a b h e = absurd (let z : ◌≡◌ {A = ℕ} 0 1 = cc in omega arith)
-frame_unique (p ∷ q ∷ []) n a b h e = absurd (let z : ◌≡◌ {A = ℕ} 0 1 = cc in omega arith)
-frame_unique (p ∷ q ∷ v ∷ []) n a b h e = absurd (let z : ◌≡◌ {A = ℕ} 0 1 = cc in omega arith)
-frame_unique (p ∷ q ∷ v ∷ s ∷ []) n a b h e = absurd (let z : ◌≡◌ {A = ℕ} 0 1 = cc in omega arith)
+frame_unique [] n a b h e = cc
+frame_unique (p ∷ []) n a b h e = cc
+frame_unique (p ∷ q ∷ []) n a b h e = cc
+frame_unique (p ∷ q ∷ v ∷ []) n a b h e = cc
+frame_unique (p ∷ q ∷ v ∷ s ∷ []) n a b h e = cc
 frame_unique (p ∷ q ∷ v ∷ s ∷ t ∷ ops) n a b h e = checked_unique p q v s t ops n a b h e
 
 -- every byte of a slice of bytes is one

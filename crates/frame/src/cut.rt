@@ -25,7 +25,7 @@ pub fn first_frame(input: &[u8]) -> (&[u8], &[u8])
 }
 
 // The pieces of the input, one after the other.
-#[derive(Drop)]
+#[derive(Drop, Debug)]
 pub struct Frames<'a> {
     rest: &'a [u8],
 }

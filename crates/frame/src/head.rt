@@ -1,20 +1,18 @@
 // The first five bytes of every frame.
-ghost use Rattle.std.specs.Prelude.{◌≡◌, ◌≤◌, length};
+ghost use Rattle.std.specs.Prelude.{◌≡◌, length};
 ghost use Rattle.frame.specs.Frames.{head};
-ghost use Rattle.frame.specs.Writing.{placed};
 
-use crate::number;
 use rule::order::Order;
 
 // The only version of frames that there is.
 pub const VERSION: u8 = 1;
 
-// Writes the length of what follows it, the version and the order to the front of a buffer.
-pub fn put_head(buffer: &mut [u8], following: u16, order: Order)
-    requires { 5 ≤ length buffer.old }
-    ensures { buffer.new ≡ placed buffer.old 0 (head following order.value) }
+// Writes the length of what follows it, the version and the order.
+pub fn put_head(part: &mut [u8], following: u16, order: Order)
+    requires { length part.old ≡ 5 }
+    ensures { part.new ≡ head following order.value }
 {
-    number::put_word(buffer, 0, following);
-    buffer[2] = VERSION;
-    number::put_word(buffer, 3, order.value());
+    let [l0, l1] = following.to_be_bytes();
+    let [o0, o1] = order.value().to_be_bytes();
+    part.copy_from_slice(&[l0, l1, VERSION, o0, o1]);
 }

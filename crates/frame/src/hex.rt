@@ -1,9 +1,9 @@
 // Bytes to hexadecimal text and back, two digits for each byte.
-ghost use Rattle.std.specs.Prelude.{◌≡◌, ◌<◌, Ok, Err, Some, string_bytes};
-ghost use Rattle.std.specs.Char.{digit_char};
+ghost use Rattle.std.specs.Prelude.{◌≡◌, Ok, Err, Some, string_bytes};
 ghost use Rattle.frame.specs.Hex.{Wrong, good, hex_byte, hex_digit, hex_reading, hex_text, sentence};
+ghost use Rattle.frame.specs.declared.hex.HexFault.TheVariants.{NoMemory};
 
-use std::alloc::{AllocError, Global};
+use std::alloc::{AllocError, AllocFailed, Global};
 use std::error::Error;
 use std::fmt;
 
@@ -38,38 +38,27 @@ impl fmt::Display for HexFault {
 
 impl Error for HexFault {}
 
+// A byte that found no room.
+impl<T: Drop> From<AllocFailed<T>> for HexFault {
+    ghost from_gives = { λ _ fault. fault ≡ NoMemory };
+
+    fn from(_refused: AllocFailed<T>) -> HexFault {
+        HexFault::NoMemory
+    }
+}
+
 // The value of a digit in either case.
 fn digit(c: u8) -> Option<u8>
     ensures { result ≡ hex_digit c }
 {
-    match c {
-        b'0'..=b'9' => Some(c - b'0'),
-        b'a'..=b'f' => Some(c - b'a' + 10),
-        b'A'..=b'F' => Some(c - b'A' + 10),
-        _ => None,
-    }
+    char::from(c).to_digit(16).map(|value| value as u8)
 }
 
 // The byte of two digits.
 fn byte(high: u8, low: u8) -> Option<u8>
     ensures { result ≡ hex_byte (hex_digit high) (hex_digit low) }
 {
-    match (digit(high), digit(low)) {
-        (Some(high), Some(low)) => Some(high * 16 + low),
-        _ => None,
-    }
-}
-
-// The digit of a value, in lower case.
-fn digit_char(value: u8) -> char
-    requires { value < 16 }
-    ensures { result ≡ digit_char value }
-{
-    if value < 10 {
-        char::from(b'0' + value)
-    } else {
-        char::from(b'a' - 10 + value)
-    }
+    Some(digit(high)? * 16 + digit(low)?)
 }
 
 // The bytes that a text of digits stands for.
@@ -77,20 +66,27 @@ pub fn bytes_of(heap: Global, text: &str) -> Result<Vec<u8>, HexFault>
     ensures { elim result [ Ok v ↦ hex_reading text.now ≡ good v.items | Err f ↦ Wrong text.now f ] }
 {
     let mut bytes = Vec::new(heap);
-    let mut left = text.as_bytes();
-    while let [high, low, rest @ ..] = left {
-        let Some(byte) = byte(*high, *low) else {
-            return Err(HexFault::NotADigit);
+    for pair in text.as_bytes().chunks(2) {
+        let &[high, low] = pair else {
+            return Err(HexFault::OddLength);
         };
-        if bytes.push(byte).is_err() {
-            return Err(HexFault::NoMemory);
-        }
-        left = rest;
+        bytes.push(byte(high, low).ok_or(HexFault::NotADigit)?)?;
     }
-    if left.is_empty() {
-        Ok(bytes)
-    } else {
-        Err(HexFault::OddLength)
+    Ok(bytes)
+}
+
+// Bytes that print as their digits, in lower case.
+#[derive(Clone, Copy)]
+pub struct Hex<'a>(pub &'a [u8]);
+
+impl<'a> fmt::Display for Hex<'a> {
+    ghost output = { λ hex. Some (hex_text hex.0.now) };
+
+    fn fmt<W: fmt::Write>(&self, f: &mut fmt::Formatter<W>) -> fmt::Result {
+        for &byte in self.0 {
+            write!(f, "{byte:02x}")?;
+        }
+        Ok(())
     }
 }
 
@@ -98,10 +94,5 @@ pub fn bytes_of(heap: Global, text: &str) -> Result<Vec<u8>, HexFault>
 pub fn text_of(heap: Global, bytes: &[u8]) -> Result<String, AllocError>
     ensures { elim result [ Ok s ↦ string_bytes s ≡ hex_text bytes.now | Err e ↦ Unit {0} ] }
 {
-    let mut text = String::new(heap);
-    for x in bytes {
-        text.push(digit_char(x / 16))?;
-        text.push(digit_char(x % 16))?;
-    }
-    Ok(text)
+    format!(in heap; "{}", Hex(bytes))
 }

@@ -8,3 +8,4 @@ pub mod pair;
 pub mod reduction;
 pub mod result;
 pub mod theorems;
+mod write;

@@ -1,14 +1,14 @@
 // The frame of a pair, read and written (docs/FRAMES.md).
-ghost use Rattle.std.specs.Prelude.{◌≡◌, ◌+◌, ◌*◌, ◌^◌, ◌<◌, ◌≤◌, length, take, drop};
-ghost use Rattle.rule.specs.Admission.{width};
-ghost use Rattle.frame.specs.Frames.{pair_frame};
+ghost use Rattle.std.specs.Prelude.{◌≡◌, ◌*◌, ◌^◌, ◌<◌, ◌≤◌, length, take, drop};
+ghost use Rattle.frame.specs.Frames.{frame_of, pair_frame};
 ghost use Rattle.frame.specs.Numbers.{signed_value};
 ghost use Rattle.frame.specs.Reading.{Framed, Reads, ReadsHead};
-ghost use Rattle.frame.specs.Writing.{Writes, pair_placed};
+ghost use Rattle.frame.specs.Writing.{Writes};
 
 use crate::head::VERSION;
+use crate::write::{ToFrame, write};
 use crate::{head, number};
-use rule::fault::{Fault, Layer, Reason};
+use rule::fault::{Fault, Reason};
 use rule::order::Order;
 use rule::pair::AdmittedPair;
 
@@ -18,14 +18,14 @@ fn read_head(length: u16, version: u8, order: u16, filled: usize) -> Result<Orde
     ensures { ReadsHead length version order filled result }
 {
     if usize::from(length) != 3 + filled {
-        return Err(Fault::new(Reason::LengthDiffers, Layer::Frame, 0));
+        return Err(Reason::LengthDiffers.at(0));
     }
     if version != VERSION {
-        return Err(Fault::new(Reason::WrongVersion, Layer::Frame, 2));
+        return Err(Reason::WrongVersion.at(2));
     }
     let order = Order::try_from(i64::from(order))?;
     if filled != 2 * order.width() {
-        return Err(Fault::new(Reason::OperandsDoNotFill, Layer::Frame, 5));
+        return Err(Reason::OperandsDoNotFill.at(5));
     }
     Ok(order)
 }
@@ -46,7 +46,7 @@ pub fn read_pair(bytes: &[u8]) -> Result<AdmittedPair, Fault>
     ensures unique { Framed bytes.now result }
 {
     let [l0, l1, version, o0, o1, operands @ ..] = bytes else {
-        return Err(Fault::new(Reason::FrameTooShort, Layer::Frame, bytes.len()));
+        return Err(Reason::FrameTooShort.at(bytes.len()));
     };
     let length = u16::from_be_bytes([*l0, *l1]);
     let order = u16::from_be_bytes([*o0, *o1]);
@@ -55,26 +55,29 @@ pub fn read_pair(bytes: &[u8]) -> Result<AdmittedPair, Fault>
     AdmittedPair::new(order, a, b)
 }
 
-// Puts each part of the frame of a pair to its place.
-fn put_pair(buffer: &mut [u8], pair: AdmittedPair)
-    requires { 5 + 2 * width pair.order.value ≤ length buffer.old }
-    ensures { buffer.new ≡ pair_placed pair.order.value pair.a pair.b buffer.old }
-{
-    let order = pair.order();
-    let width = order.width();
-    head::put_head(buffer, (3 + 2 * width) as u16, order);
-    number::put_signed(buffer, 5, width, pair.a());
-    number::put_signed(buffer, 5 + width, width, pair.b());
+impl ToFrame for AdmittedPair {
+    ghost frame = { frame_of };
+
+    #[tactic(auto, using(crate::proofs::Writing::pair_frame_length))]
+    fn frame_length(&self) -> usize {
+        5 + 2 * self.order().width()
+    }
+
+    #[tactic(auto, using(crate::proofs::Writing::pair_frame_length))]
+    fn put_frame(&self, part: &mut [u8]) {
+        let order = self.order();
+        let width = order.width();
+        let (head, operands) = part.split_at_mut(5);
+        let (a, b) = operands.split_at_mut(width);
+        head::put_head(head, (3 + 2 * width) as u16, order);
+        number::put_signed(a, self.a());
+        number::put_signed(b, self.b());
+    }
 }
 
 // Writes the frame of a pair to the front of a buffer, and answers how long it is.
 pub fn write_pair(pair: AdmittedPair, buffer: &mut [u8]) -> Result<usize, Fault>
     ensures { Writes (pair_frame pair.order.value pair.a pair.b) buffer.old result buffer.new }
 {
-    let length = 5 + 2 * pair.order().width();
-    if buffer.len() < length {
-        return Err(Fault::new(Reason::BufferTooShort, Layer::Unit, 0));
-    }
-    put_pair(buffer, pair);
-    Ok(length)
+    write(&pair, buffer)
 }

@@ -3,7 +3,7 @@ ghost use Rattle.frame.specs.Fits.{Fit};
 
 use rule::order::Order;
 
-#[derive(Clone, Copy)]
+#[derive(Clone, Copy, PartialEq, Eq, Debug)]
 pub struct Reduction {
     pub order: Order,
     pub count: u16,

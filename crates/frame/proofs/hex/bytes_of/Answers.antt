@@ -1,24 +1,29 @@
-use Rattle.std.proofs.Common.{◌≡◌, [], ◌∷◌, ◌++◌, vec_items, sym, ◌∙◌, ap₂, rules}
-use Rattle.std.proofs.lemmas.List.{take_rest}
-use Rattle.frame.specs.Hex.{after, hex_reading}
-use Rattle.frame.proofs.HexDigits.{reading_more, reading_no_digit, reading_all, reading_odd}
+use Rattle.std.proofs.Common.{◌≡◌, [], ◌∷◌, ◌++◌, vec_items, None, Some, sym, ◌∙◌, arith, rules}
+use Rattle.frame.proofs.HexDigits.{reading_no_digit, reading_more, reading_all, reading_odd}
 use Rattle.frame.proofs.hex.bytes_of.Goals as goal
+use Rattle.frame.proofs.hex.bytes_of.Goals.{in_default-via-then-pair-lt2, in_default-via-else-pair-lt2+else-pair-lt3}
 
-pub loop-left-preserved : goal.loop-left-preserved
-loop-left-preserved c =
-    let xs = vec_items c.loop-left.bytes in
-    let left = c.loop-left.left.now in
-    let x = c.in-Some.byte in
-    let pushed : vec_items c.push.new.self ≡ xs ++ x ∷ [] = search rules in
-    reading_more c.args.text.now xs left x (search rules) c.loop-left.invariant (sym c.byte.ensures ∙ c.in-Some.is)
-    ∙ ap₂ (λ ys ds. after ys (hex_reading ds)) (sym pushed) (sym (take_rest left 2))
+pub returns-in_default : goal.returns-in_default
+returns-in_default c =
+    let size = c.loop-pair.invariant.0 in
+    let step = c.in-Some.ensures.steps in
+    elim c.in_default.branch [
+      | in_default-via-then-pair-lt2 w ↦ reading_odd _ _ _ (grind arith) c.loop-pair.invariant.1
+      | in_default-via-else-pair-lt2+else-pair-lt3 w ↦ absurd (grind arith)
+    ]
 
-pub returns-then-is_empty : goal.returns-then-is_empty
-returns-then-is_empty c = reading_all c.args.text.now (vec_items c.loop-left.bytes) c.loop-left.left.now (search rules) c.loop-left.invariant
+pub returns-in_err-ok_or : goal.returns-in_err-ok_or
+returns-in_err-ok_or c =
+    let none : c.byte.result ≡ None = search rules in
+    let wrong = reading_no_digit _ _ _ c.in-Some.pair.now _ c.loop-pair.invariant.1 c.in-Some.ensures.steps.1.0 (omega arith) (sym c.byte.ensures ∙ none) in
+    search rules
 
-pub returns-else-is_empty : goal.returns-else-is_empty
-returns-else-is_empty c = reading_odd c.args.text.now (vec_items c.loop-left.bytes) c.loop-left.left.now (search rules) c.loop-left.invariant
+pub loop-pair-preserved : goal.loop-pair-preserved
+loop-pair-preserved c =
+    let pushed : vec_items c.push.new.self ≡ vec_items c.loop-pair.bytes ++ c.in_ok-ok_or.field-0 ∷ [] = search rules in
+    let found : c.byte.result ≡ Some c.in_ok-ok_or.field-0 = search rules in
+    let read = reading_more _ _ _ c.in-Some.pair.now _ _ c.loop-pair.invariant.1 c.in-Some.ensures.steps.1.0 (omega arith) (sym c.byte.ensures ∙ found) in
+    (search rules, rw pushed read)
 
-pub returns-in_default-byte : goal.returns-in_default-byte
-returns-in_default-byte c =
-    reading_no_digit c.args.text.now (vec_items c.loop-left.bytes) c.loop-left.left.now (search rules) c.loop-left.invariant (sym c.byte.ensures ∙ c.in_default-byte.is)
+pub returns : goal.returns
+returns c = reading_all _ _ _ c.in-None.ensures.steps.1.0 c.loop-pair.invariant.1

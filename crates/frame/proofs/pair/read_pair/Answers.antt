@@ -1,18 +1,10 @@
-use Rattle.std.proofs.Common.{◌≡◌, length, take, drop, ap, ◌∙◌, ap₂, w64, SFits, rules}
+use Rattle.std.proofs.Common.{take, drop, ap, ◌∙◌, ap₂, w64, SFits, rules}
 use Rattle.std.proofs.lemmas.Int.{to_z-of_z}
 use Rattle.std.proofs.lemmas.List.{take_rest}
 use Rattle.frame.specs.Numbers.{signed_value}
-use Rattle.frame.specs.Reading.{reading, refused}
-use Rattle.frame.proofs.Reading.{reads_admitted, reading_headed, reading_refused}
+use Rattle.frame.proofs.Reading.{reads_admitted, reading_headed}
 use Rattle.frame.proofs.RoundTrips.{framed}
 use Rattle.frame.proofs.pair.read_pair.Goals as goal
-
-pub returns-in_err-order : goal.returns-in_err-order
-returns-in_err-order c =
-    let s = c.args.bytes.now in
-    let f = c.in_err-order.field-0.0 in
-    let e : reading s ≡ refused f = reading_refused s f c.from_be_bytes-length.result c.from_be_bytes-order.result _ (search rules) (search rules) (search rules) (ap length (take_rest s 5)) c.in_err-order.ensures in
-    record { reads = search rules; unique = search rules }
 
 pub returns : goal.returns
 returns c =
@@ -26,5 +18,5 @@ returns c =
     reading_headed s o.value a b (search rules) (search rules) (search rules)
     (c.read_operands-a.ensures.a ∙ ap signed_value (ap₂ take c.width.ensures (take_rest s 5)))
     (c.read_operands-a.ensures.b ∙ ap signed_value (ap₂ drop c.width.ensures (take_rest s 5))) in
-    let reads = reads_admitted s o _ _ c.new-2.result (simp to_z-of_z headed) c.new-2.ensures in
-    record { reads = reads; unique = framed s c.new-2.result (λ i. (c.type_inv.bytes i).fits) reads }
+    let reads = reads_admitted s o _ _ c.new.result (simp to_z-of_z headed) c.new.ensures in
+    record { reads = reads; unique = framed s c.new.result (λ i. (c.type_inv.bytes i).fits) reads }

@@ -36,10 +36,7 @@ impl Cofactor {
     pub fn cofactors(&self, a: i64) -> Option<Cofactors>
         ensures { result ≡ cofactors_at a (cofactor_table self.now) }
     {
-        match self.begun {
-            Some(begun) => Some(begun.entries.cofactors(a)),
-            None => None,
-        }
+        self.begun.map(|begun| begun.entries.cofactors(a))
     }
 }
 
@@ -77,19 +74,15 @@ impl Follower for Cofactor {
     }
 
     fn takes(&self, command: Command) -> bool {
-        match self.begun {
-            Some(begun) => begun.turned(command).is_some(),
-            None => false,
-        }
+        self.begun
+            .is_some_and(|begun| begun.turned(command).is_some())
     }
 
     fn follow(&mut self, command: Command) -> Result<(), Fault> {
-        let Some(begun) = self.begun else {
-            return Err(Fault::new(Reason::CommandNotTaken, Layer::Follower, 0));
-        };
-        let Some(next) = begun.turned(command) else {
-            return Err(Fault::new(Reason::CommandNotTaken, Layer::Follower, 0));
-        };
+        let next = self
+            .begun
+            .and_then(|begun| begun.turned(command))
+            .ok_or(Reason::CommandNotTaken.by(Layer::Follower))?;
         self.begun = Some(next);
         Ok(())
     }

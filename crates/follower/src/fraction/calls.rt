@@ -96,10 +96,7 @@ impl Fraction {
     pub fn read_out(&self) -> Option<Ratio>
         ensures { result ≡ read_out (fraction_table self.now) }
     {
-        match self.begun {
-            Some(rows) => Some(rows.read_out()),
-            None => None,
-        }
+        self.begun.map(|rows| rows.read_out())
     }
 }
 
@@ -131,9 +128,9 @@ impl Follower for Fraction {
     }
 
     fn follow(&mut self, command: Command) -> Result<(), Fault> {
-        let Some(rows) = self.begun else {
-            return Err(Fault::new(Reason::CommandNotTaken, Layer::Follower, 0));
-        };
+        let rows = self
+            .begun
+            .ok_or(Reason::CommandNotTaken.by(Layer::Follower))?;
         self.begun = Some(rows.after(command));
         Ok(())
     }

@@ -1,12 +1,13 @@
 -- Tables after lists of commands, and two followers side by side.
-use Rattle.std.specs.Prelude.{◌≡◌, Bool, ◌&&◌, List, [], ◌∷◌, ◌++◌, ℤ, refl}
+use Rattle.std.specs.Prelude.{◌≡◌, ℕ, Bool, ◌&&◌, List, [], ◌∷◌, ◌++◌, ℤ, Some, Option, refl}
 use Rattle.std.proofs.lemmas.Bool.{and_from}
 use Rattle.rule.specs.Rule.{State, told}
+use Rattle.std.proofs.Common.{sym, subst}
 use Rattle.rule.specs.Pairs.{start_of}
 use Rattle.rule.specs.Whole.{whole}
 use Rattle.rule.specs.declared.command.Command.{Command}
 use Rattle.rule.specs.declared.pair.AdmittedPair.{AdmittedPair}
-use Rattle.follower.specs.Following.{turned, Follows}
+use Rattle.follower.specs.Following.{turned, table_at, Follows, begun_first, begun_accepts, begun_turns, BegunRelated}
 
 pub turned_more : {T : Type 0} (turns : T → Command → T) (t : T) (cs : List Command) (c : Command) → turned turns t (cs ++ c ∷ []) ≡ turns (turned turns t cs) c
 unfolding turned
@@ -29,3 +30,19 @@ follows_beside first accepts turns relation first' accepts' turns' relation' h k
       related = rw e ((h p m r).related, (k p m r).related);
       takes = λ n. rw e (and_from _ _ ((h p m r).takes n) ((k p m r).takes n));
     }
+
+-- once it is begun, a follower's table goes as the table that it keeps
+begun_turned : {T : Type 0} (turns : T → Command → T) (t : T) (cs : List Command) → turned (begun_turns turns) (Some t) cs ≡ Some (turned turns t cs)
+unfolding turned
+begun_turned turns t [] = refl
+begun_turned turns t (c ∷ cs) = begun_turned turns (turns t c) cs
+
+pub begun_table_at : {T : Type 0} (first : AdmittedPair → T) (turns : T → Command → T) (p : AdmittedPair) (k : ℕ) → table_at (begun_first first) (begun_turns turns) p k ≡ Some (table_at first turns p k)
+begun_table_at first turns p k = begun_turned turns (first p) (told whole k (start_of p))
+
+pub follows_begun : {T : Type 0} (first : AdmittedPair → T) (accepts : T → Command → Bool) (turns : T → Command → T) (relation : AdmittedPair → T → State ℤ → Type 0)
+    → Follows first accepts turns relation
+    → Follows (begun_first first) (begun_accepts accepts) (begun_turns turns) (BegunRelated relation)
+follows_begun first accepts turns relation h p k r =
+    let e = begun_table_at first turns p k in
+    record { related = rw e (h p k r).related; takes = λ n. rw e ((h p k r).takes n) }

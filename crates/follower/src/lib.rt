@@ -7,4 +7,5 @@ pub mod fraction;
 pub mod pair;
 mod row;
 mod signs;
+pub mod table;
 pub mod theorems;

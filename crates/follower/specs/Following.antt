@@ -33,10 +33,10 @@ pub record FollowsTo {T : Type 0} (first : AdmittedPair → T) (accepts : T → 
 abbrev pub Follows : {T : Type 0} → (AdmittedPair → T) → (T → Command → Bool) → (T → Command → T) → (AdmittedPair → T → State ℤ → Type 0) → Type 0
 Follows first accepts turns relation = (p : AdmittedPair) (k : ℕ) → Running whole (start_of p) k → FollowsTo first accepts turns relation p k
 
--- What a command makes of a table, if it is taken: a table that means the next, and nothing of any other command.
-abbrev pub Turned : {S T : Type 0} → (S → T) → (T → Command → Bool) → (T → Command → T) → T → Command → Option S → Type 0
-Turned rows accepts turns t c None = accepts t c ≡ false
-Turned rows accepts turns t c (Some s) = (accepts t c ≡ true) × (rows s ≡ turns t c)
+-- A table that means t if the test holds, and nothing if it does not.
+abbrev pub Settled : {S T : Type 0} → (S → T) → Bool → T → Option S → Type 0
+Settled rows test t None = test ≡ false
+Settled rows test t (Some s) = (test ≡ true) × (rows s ≡ t)
 
 -- The same of a follower that holds no table before it is begun, and takes no command then.
 abbrev pub begun_first : {T : Type 0} → (AdmittedPair → T) → AdmittedPair → Option T

@@ -1,18 +1,21 @@
 -- Tables after lists of commands, and two followers side by side.
-use Rattle.std.specs.Prelude.{◌≡◌, ℕ, Bool, ◌&&◌, List, [], ◌∷◌, ◌++◌, ℤ, Some, Option, refl}
+use Rattle.std.specs.Prelude.{◌≡◌, ℕ, suc, Bool, ◌&&◌, List, [], ◌∷◌, ◌++◌, ℤ, Some, Option, refl}
 use Rattle.std.proofs.lemmas.Bool.{and_from}
-use Rattle.rule.specs.Rule.{State, told}
-use Rattle.std.proofs.Common.{sym, subst}
+use Rattle.rule.specs.Rule.{State, command, after, told}
 use Rattle.rule.specs.Pairs.{start_of}
 use Rattle.rule.specs.Whole.{whole}
 use Rattle.rule.specs.declared.command.Command.{Command}
 use Rattle.rule.specs.declared.pair.AdmittedPair.{AdmittedPair}
+use Rattle.rule.proofs.Fuel.{told_more}
 use Rattle.follower.specs.Following.{turned, table_at, Follows, begun_first, begun_accepts, begun_turns, BegunRelated}
 
 pub turned_more : {T : Type 0} (turns : T → Command → T) (t : T) (cs : List Command) (c : Command) → turned turns t (cs ++ c ∷ []) ≡ turns (turned turns t cs) c
 unfolding turned
 turned_more turns t [] c = refl
 turned_more turns t (x ∷ cs) c = turned_more turns (turns t x) cs c
+
+pub table_more : {T : Type 0} (first : AdmittedPair → T) (turns : T → Command → T) (p : AdmittedPair) (k : ℕ) → table_at first turns p (suc k) ≡ turns (table_at first turns p k) (command whole (after whole k (start_of p)))
+table_more first turns p k = rw (told_more whole k (start_of p)) (turned_more turns (first p) (told whole k (start_of p)) (command whole (after whole k (start_of p))))
 
 -- side by side, each table goes its own way
 pub turned_beside : {T U : Type 0} (f : T → Command → T) (g : U → Command → U) (t : T) (u : U) (cs : List Command) → turned {T = T × U} (λ x c. (f x.0 c, g x.1 c)) (t, u) cs ≡ (turned f t cs, turned g u cs)

@@ -19,13 +19,13 @@ use Rattle.rule.proofs.Divisor.{divisor_greatest}
 use Rattle.follower.specs.Following.{turned, table_at, Follows}
 use Rattle.follower.specs.Signs.{is_negative, negated_by}
 use Rattle.follower.specs.Negated.{negated_size}
-use Rattle.follower.specs.Fraction.{modulus, sum_in, columns_exchanged, column_doubled, columns_combined, row_after, FractionRows, Kept, fraction_first, fraction_accepts, fraction_turns, Same, RowRelated, FractionRelated, read_signed, numerator_of, denominator_of, Reduced, ReadsReduced, TableReduced, FractionIsReduced}
+use Rattle.follower.specs.Fraction.{modulus, sum_in, columns_exchanged, column_doubled, columns_combined, row_after, FractionRows, Kept, first_table, rows_after, Same, RowRelated, FractionRowsRelated, read_signed, numerator_of, denominator_of, Reduced, ReadsReduced, TableReduced, FractionIsReduced}
 use Rattle.follower.specs.declared.row.Row.{Row}
-use Rattle.follower.specs.FollowingLemmas.{turned_more}
+use Rattle.follower.specs.FollowingLemmas.{table_more, begun_table_at}
 use Rattle.follower.specs.Modulo.{same_refl, same_add, same-mul, sum_same, difference_same, modulus_many, read_is}
 
 -- ---- a row beside an exact one, whose entries i and j are not reduced: i·a + j·b is z over ℤ
-record Exactly (w : ℕ) (r : Row) (a b z : ℤ) : Type 0 where
+record Exactly (w : ℕ) (r : Row ℕ) (a b z : ℤ) : Type 0 where
   i : ℤ
   j : ℤ
   value : i *ℤ a +ℤ j *ℤ b ≡ z
@@ -33,12 +33,12 @@ record Exactly (w : ℕ) (r : Row) (a b z : ℤ) : Type 0 where
   right : Same (pos w) (pos r.right) j
   kept : Kept w r
 
-exactly_exchanged : (w : ℕ) (r : Row) (a b z : ℤ) → Exactly w r a b z → Exactly w (columns_exchanged true r) b a z
+exactly_exchanged : (w : ℕ) (r : Row ℕ) (a b z : ℤ) → Exactly w r a b z → Exactly w (columns_exchanged true r) b a z
 exactly_exchanged w r a b z h =
     record { i = h.j; j = h.i; value = +ℤ_comm (h.j *ℤ b) (h.i *ℤ a) ∙ h.value; left = h.right; right = h.left; kept = (h.kept.1, h.kept.0) }
 
 -- b is twice k
-exactly_doubled : (w : ℕ) (r : Row) (a b z k : ℤ) → b ≡ k +ℤ k → Exactly w r a b z → Exactly w (column_doubled w r) a k z
+exactly_doubled : (w : ℕ) (r : Row ℕ) (a b z k : ℤ) → b ≡ k +ℤ k → Exactly w r a b z → Exactly w (column_doubled w r) a k z
 exactly_doubled w r a b z k e h =
     record {
       i = h.i;
@@ -53,7 +53,7 @@ exactly_doubled w r a b z k e h =
     ident i j = simp (e, out) (omega (arith, lin))
 
 -- m is half of a + b or of a - b
-exactly_combined : (w : ℕ) (r : Row) (a b z m : ℤ) (q : Bool) → m +ℤ m ≡ summed whole (sign_by q) a b → Exactly w r a b z → Exactly w (columns_combined w (sign_by q) r) a m z
+exactly_combined : (w : ℕ) (r : Row ℕ) (a b z m : ℤ) (q : Bool) → m +ℤ m ≡ summed whole (sign_by q) a b → Exactly w r a b z → Exactly w (columns_combined w (sign_by q) r) a m z
 exactly_combined w r a b z m true e h =
     let p : 0 < w = omega (arith, h.kept.0) in
     record {
@@ -86,12 +86,12 @@ exactly_combined w r a b z m false e h =
         simp (g, f, out) (omega (arith, lin))
 
 -- ---- along the run
-record Tracks (w : ℕ) (r : Row) (s : State ℤ) (z : ℤ) : Type 0 where
+record Tracks (w : ℕ) (r : Row ℕ) (s : State ℤ) (z : ℤ) : Type 0 where
   bare : ℤ
   whole : bare *ℤ pos (2 ^ s.twos) ≡ z
   exactly : Exactly w r s.a s.b bare
 
-tracks_both : (w : ℕ) (r : Row) (s : State ℤ) (z : ℤ) → odd s.a ≡ false → odd s.b ≡ false → Tracks w r s z → Tracks w r (obeyed whole (command_by false false true true) s) z
+tracks_both : (w : ℕ) (r : Row ℕ) (s : State ℤ) (z : ℤ) → odd s.a ≡ false → odd s.b ≡ false → Tracks w r s z → Tracks w r (obeyed whole (command_by false false true true) s) z
 tracks_both w r s z e f h = by h.bare h.whole h.exactly
   where
     ident : (i j a b u v y : ℤ) → a ≡ u +ℤ u → b ≡ v +ℤ v → i *ℤ a +ℤ j *ℤ b ≡ y → y ≡ (i *ℤ u +ℤ j *ℤ v) +ℤ (i *ℤ u +ℤ j *ℤ v)
@@ -109,7 +109,7 @@ tracks_both w r s z e f h = by h.bare h.whole h.exactly
           exactly = record { i = x.i; j = x.j; value = refl; left = x.left; right = x.right; kept = x.kept };
         }
 
-tracks_by : (w : ℕ) (r : Row) (s : State ℤ) (z : ℤ) (p q o x : Bool) → odd s.a ≡ p → odd s.b ≡ q → fourfold (s.a +ℤ s.b) ≡ o → Tracks w r s z
+tracks_by : (w : ℕ) (r : Row ℕ) (s : State ℤ) (z : ℤ) (p q o x : Bool) → odd s.a ≡ p → odd s.b ≡ q → fourfold (s.a +ℤ s.b) ≡ o → Tracks w r s z
     → Tracks w (row_after w (command_by p q o x) r) (obeyed whole (command_by p q o x) s) z
 tracks_by w r s z false false o x e f g h = tracks_both w r s z e f h
 tracks_by w r s z false true o x e f g h =
@@ -122,7 +122,7 @@ tracks_by w r s z true true o true e f g h =
     let k = (joins s.b s.a o f e (ap fourfold (+ℤ_comm s.b s.a) ∙ g)).twice in
     record { bare = h.bare; whole = h.whole; exactly = exactly_combined w _ _ _ _ _ o k (exactly_exchanged w r _ _ _ h.exactly) }
 
-tracks_next : (w : ℕ) (r : Row) (s : State ℤ) (z : ℤ) → Tracks w r s z → Tracks w (row_after w (command whole s) r) (next whole s) z
+tracks_next : (w : ℕ) (r : Row ℕ) (s : State ℤ) (z : ℤ) → Tracks w r s z → Tracks w (row_after w (command whole s) r) (next whole s) z
 unfolding next command
 tracks_next w r s z h = tracks_by w r s z (odd s.a) (odd s.b) (fourfold (s.a +ℤ s.b)) (int_le (pos 0) s.δ) refl refl refl h
 
@@ -132,11 +132,7 @@ record RowsTrack (p : AdmittedPair) (t : FractionRows) (s : State ℤ) : Type 0 
   first : Tracks (modulus t.order) t.first s p.a
   second : Tracks (modulus t.order) t.second s p.b
 
-abbrev Track : AdmittedPair → Option FractionRows → State ℤ → Type 0
-Track p None s = ⊥
-Track p (Some t) s = RowsTrack p t s
-
-track_start : (p : AdmittedPair) → Track p (fraction_first p) (start_of p)
+track_start : (p : AdmittedPair) → RowsTrack p (first_table p) (start_of p)
 track_start p =
     let w = modulus (order_of p) in
     let l = modulus_many (order_of p) in
@@ -154,55 +150,43 @@ track_start p =
     unit_two : (x y : ℤ) → pos 0 *ℤ x +ℤ pos 1 *ℤ y ≡ y
     unit_two x y = omega (arith, ints)
 
-track_next : (p : AdmittedPair) (t : Option FractionRows) (s : State ℤ) → Track p t s → Track p (fraction_turns t (command whole s)) (next whole s)
-track_next p None s h = absurd h
-track_next p (Some t) s h =
+track_next : (p : AdmittedPair) (t : FractionRows) (s : State ℤ) → RowsTrack p t s → RowsTrack p (rows_after (command whole s) t) (next whole s)
+track_next p t s h =
     record {
       order = h.order;
       first = tracks_next (modulus t.order) t.first s p.a h.first;
       second = tracks_next (modulus t.order) t.second s p.b h.second;
     }
 
-table_more : (p : AdmittedPair) (k : ℕ) → table_at fraction_first fraction_turns p (suc k) ≡ fraction_turns (table_at fraction_first fraction_turns p k) (command whole (after whole k (start_of p)))
-table_more p k = rw (told_more whole k (start_of p)) (turned_more fraction_turns (fraction_first p) (told whole k (start_of p)) (command whole (after whole k (start_of p))))
+-- the table after k commands of the run
+abbrev fractions_at : AdmittedPair → ℕ → FractionRows
+fractions_at = table_at first_table (λ t c. rows_after c t)
 
-track_none : (p : AdmittedPair) → Track p (table_at fraction_first fraction_turns p 0) (after whole 0 (start_of p))
+track : (p : AdmittedPair) (k : ℕ) → RowsTrack p (fractions_at p k) (after whole k (start_of p))
 unfolding after told turned
-track_none p = track_start p
-
-track : (p : AdmittedPair) (k : ℕ) → Track p (table_at fraction_first fraction_turns p k) (after whole k (start_of p))
-track p zero = track_none p
-track p (suc k) = rw (table_more p k, after_more whole k (start_of p)) (track_next p (table_at fraction_first fraction_turns p k) (after whole k (start_of p)) (track p k))
+track p zero = track_start p
+track p (suc k) = rw (table_more first_table (λ t c. rows_after c t) p k, after_more whole k (start_of p)) (track_next p (fractions_at p k) (after whole k (start_of p)) (track p k))
 
 -- ---- the law
-tracks_related : (w : ℕ) (r : Row) (s : State ℤ) (z : ℤ) → Tracks w r s z → RowRelated w r s z
+tracks_related : (w : ℕ) (r : Row ℕ) (s : State ℤ) (z : ℤ) → Tracks w r s z → RowRelated w r s z
 tracks_related w r s z h =
     let x = h.exactly in
     record { bare = h.bare; whole = h.whole; same = subst (Same (pos w) (pos r.left *ℤ s.a +ℤ pos r.right *ℤ s.b)) x.value (same_add (same-mul s.a x.left) (same-mul s.b x.right)) }
 
-track_related : (p : AdmittedPair) (t : Option FractionRows) (s : State ℤ) → Track p t s → FractionRelated p t s
-track_related p None s h = absurd h
-track_related p (Some t) s h =
+track_related : (p : AdmittedPair) (t : FractionRows) (s : State ℤ) → RowsTrack p t s → FractionRowsRelated p t s
+track_related p t s h =
     record {
       order = h.order;
       first = subst (λ (n : ℕ). RowRelated (modulus n) t.first s p.a) h.order (tracks_related _ t.first s p.a h.first);
       second = subst (λ (n : ℕ). RowRelated (modulus n) t.second s p.b) h.order (tracks_related _ t.second s p.b h.second);
     }
 
-track_accepts : (p : AdmittedPair) (t : Option FractionRows) (s : State ℤ) (c : Command) → Track p t s → fraction_accepts t c ≡ true
-track_accepts p None s c h = absurd h
-track_accepts p (Some t) s c h = refl
-
-pub fraction_follows : Follows fraction_first fraction_accepts fraction_turns FractionRelated
-fraction_follows p k _ =
-    record {
-      related = track_related p (table_at fraction_first fraction_turns p k) (after whole k (start_of p)) (track p k);
-      takes = λ _. track_accepts p (table_at fraction_first fraction_turns p k) (after whole k (start_of p)) _ (track p k);
-    }
+pub tables_follow : Follows first_table (λ t c. true) (λ t c. rows_after c t) FractionRowsRelated
+tables_follow p k _ = record { related = track_related p _ _ (track p k); takes = λ _. refl }
 
 -- ---- the end, where b is 0
 -- of a row whose number is z: it reads as the exact entry i, and i·a·2^twos is z
-record Ended (n : ℕ) (r : Row) (s : State ℤ) (z : ℤ) : Type 0 where
+record Ended (n : ℕ) (r : Row ℕ) (s : State ℤ) (z : ℤ) : Type 0 where
   i : ℤ
   reads : read_signed n r.left ≡ i
   small : unsigned_abs i < 2 ^ n
@@ -212,10 +196,10 @@ dropped : (i j a b y : ℤ) → b ≡ pos 0 → i *ℤ a +ℤ j *ℤ b ≡ y →
 dropped i j a b y e g = let q : j *ℤ b ≡ pos 0 = ap (λ k. j *ℤ k) e ∙ *ℤ-zero j in omega (arith, lin)
 
 -- a is not 0 at the end of a run that had a b other than 0
-ended_some : (w : ℕ) (r : Row) (s : State ℤ) (z : ℤ) → (z ≢ pos 0) → s.b ≡ pos 0 → Tracks w r s z → s.a ≢ pos 0
+ended_some : (w : ℕ) (r : Row ℕ) (s : State ℤ) (z : ℤ) → (z ≢ pos 0) → s.b ≡ pos 0 → Tracks w r s z → s.a ≢ pos 0
 ended_some w r s z some b h = right_some h.exactly.i s.a h.bare (dropped h.exactly.i h.exactly.j s.a s.b h.bare b h.exactly.value) (left_some h.bare (pos (2 ^ s.twos)) z h.whole some)
 
-ended : (n : ℕ) (r : Row) (s : State ℤ) (z : ℤ) → unsigned_abs z < 2 ^ n → (s.a ≢ pos 0) → s.b ≡ pos 0 → Tracks (modulus n) r s z → Ended n r s z
+ended : (n : ℕ) (r : Row ℕ) (s : State ℤ) (z : ℤ) → unsigned_abs z < 2 ^ n → (s.a ≢ pos 0) → s.b ≡ pos 0 → Tracks (modulus n) r s z → Ended n r s z
 ended n r s z l some b h =
     let x = h.exactly in
     let e = dropped x.i x.j s.a s.b h.bare b x.value in
@@ -305,10 +289,7 @@ reads_reduced p t s b g h =
           denominator = subst (Below (order_of p)) de (omega (arith, m, negated_size (is_negative j) j));
         }
 
-track_reduced : (p : AdmittedPair) (t : Option FractionRows) (s : State ℤ) → s.b ≡ pos 0 → Greatest (divisor s) p.a p.b → Track p t s → TableReduced p t
-track_reduced p None s b g h = absurd h
-track_reduced p (Some t) s b g h = reads_reduced p t s b g h
-
 pub fraction_reduced : FractionIsReduced
 fraction_reduced p m need =
-    track_reduced p (table_at fraction_first fraction_turns p m) (after whole m (start_of p)) (zero_yes _ need.over) (divisor_greatest p.a p.b p.admitted.2 m need) (track p m)
+    subst (TableReduced p) (sym (begun_table_at first_table (λ t c. rows_after c t) p m))
+    (reads_reduced p (fractions_at p m) (after whole m (start_of p)) (zero_yes _ need.over) (divisor_greatest p.a p.b p.admitted.2 m need) (track p m))

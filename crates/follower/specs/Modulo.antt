@@ -43,7 +43,7 @@ near_by w q c z (pos (suc zero)) l h k f = inr (omega (arith, ints))
 near_by w q c z (pos (suc (suc m))) l h k f = absurd (omega (arith, ints))
 near_by w q c z (negsuc m) l h k f = absurd (omega (arith, ints))
 
-pows : (n : ℕ) → (2 ^ (n + 2) ≡ 4 * 2 ^ n) × (2 ^ (n + 1) ≡ 2 * 2 ^ n)
+pub pows : (n : ℕ) → (2 ^ (n + 2) ≡ 4 * 2 ^ n) × (2 ^ (n + 1) ≡ 2 * 2 ^ n)
 pows n = let p = pow-add 2 n 2 in let q = pow-add 2 n 1 in (omega arith, omega arith)
 
 pub modulus_many : (n : ℕ) → (0 < modulus n) × (1 < modulus n)

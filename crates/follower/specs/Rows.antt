@@ -16,8 +16,8 @@ use Rattle.rule.proofs.Ring.{out, lin, *ℤ-unit}
 use Rattle.rule.proofs.Parity.{odd_no, odd_double, Joins, joins, xor, parity}
 use Rattle.rule.proofs.Fuel.{after_more, told_more}
 use Rattle.follower.specs.Following.{turned, table_at, Follows}
-use Rattle.follower.specs.Cofactor.{CofactorRows, first_rows, swapped, combined, corrected, evened, halved_row, in_range, row_fits, rows_take, rows_turn, cofactor_first, cofactor_accepts, cofactor_turns, CofactorRelated}
-use Rattle.follower.specs.FollowingLemmas.{turned_more}
+use Rattle.follower.specs.Cofactor.{CofactorRows, first_rows, swapped, combined, corrected, evened, halved_row, in_range, row_fits, rows_take, rows_turn, CofactorRowsRelated, cofactor_first, cofactor_turns}
+use Rattle.follower.specs.FollowingLemmas.{table_more, begun_table_at}
 
 -- ---- the values of the rows
 pub record Values (u z : ℤ) (r : CofactorRows) : Type 0 where
@@ -270,31 +270,21 @@ kept_start p =
 
 -- the rows after k commands of the run
 abbrev pub rows_at : AdmittedPair → ℕ → CofactorRows
-rows_at p k = turned rows_turn (first_rows p) (told whole k (start_of p))
-
-rows_more : (p : AdmittedPair) (k : ℕ) → rows_at p (suc k) ≡ rows_turn (rows_at p k) (command whole (after whole k (start_of p)))
-rows_more p k = ap (turned rows_turn (first_rows p)) (told_more whole k (start_of p)) ∙ turned_more rows_turn (first_rows p) (told whole k (start_of p)) (command whole (after whole k (start_of p)))
+rows_at = table_at first_rows rows_turn
 
 pub kept_at : (p : AdmittedPair) (k : ℕ) → Kept p (after whole k (start_of p)) (rows_at p k)
 unfolding after told turned next
 kept_at p zero = kept_start p
-kept_at p (suc k) = subst₂ (Kept p) (sym (after_more whole k (start_of p))) (sym (rows_more p k)) (goes p (after whole k (start_of p)) (rows_at p k) (kept_at p k)).1
+kept_at p (suc k) = subst₂ (Kept p) (sym (after_more whole k (start_of p))) (sym (table_more first_rows rows_turn p k)) (goes p (after whole k (start_of p)) (rows_at p k) (kept_at p k)).1
 
 -- ---- the follower, whose table is its rows once it is begun
-rows_table_at : (r : CofactorRows) (cs : List Command) → turned cofactor_turns (Some r) cs ≡ Some (turned rows_turn r cs)
-unfolding turned
-rows_table_at r [] = refl
-rows_table_at r (c ∷ cs) = rows_table_at (rows_turn r c) cs
-
 pub cofactor_table_lem : (p : AdmittedPair) (k : ℕ) → table_at cofactor_first cofactor_turns p k ≡ Some (rows_at p k)
-cofactor_table_lem p k = rows_table_at (first_rows p) (told whole k (start_of p))
+cofactor_table_lem p k = begun_table_at first_rows rows_turn p k
 
-pub cofactor_follows : Follows cofactor_first cofactor_accepts cofactor_turns CofactorRelated
-cofactor_follows p k run =
-    let s = after whole k (start_of p) in
+pub rows_follow : Follows first_rows rows_take rows_turn CofactorRowsRelated
+rows_follow p k run =
     let h = kept_at p k in
-    let e = sym (cofactor_table_lem p k) in
     record {
-      related = subst (λ t. CofactorRelated p t s) e (record { first = h.values.first; second = h.values.second; of_a = h.ground.of_a; of_b = h.ground.of_b });
-      takes = λ _. subst (λ t. cofactor_accepts t (command whole s) ≡ true) e (goes p s (rows_at p k) h).0;
+      related = record { first = h.values.first; second = h.values.second; of_a = h.ground.of_a; of_b = h.ground.of_b };
+      takes = λ _. (goes p (after whole k (start_of p)) (rows_at p k) h).0;
     }

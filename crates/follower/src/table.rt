@@ -4,7 +4,7 @@ ghost use Rattle.std.specs.Option.{option_map};
 ghost use Rattle.rule.specs.Rule.{State};
 ghost use Rattle.rule.specs.declared.command.Command.{Command};
 ghost use Rattle.rule.specs.declared.pair.AdmittedPair.{AdmittedPair};
-ghost use Rattle.follower.specs.Following.{Follows, Turned, begun_first, begun_accepts, begun_turns, BegunRelated};
+ghost use Rattle.follower.specs.Following.{Follows, Settled, begun_first, begun_accepts, begun_turns, BegunRelated};
 ghost use Rattle.follower.specs.FollowingLemmas.{follows_begun};
 ghost use Rattle.std.proofs.Common.{rules};
 
@@ -34,7 +34,7 @@ pub trait Table: Copy {
         ensures { rows result ≡ first pair };
 
     fn turned(self, command: Command) -> Option<Self>
-        ensures { Turned rows accepts turns (rows self) command result };
+        ensures { Settled rows (accepts (rows self) command) (turns (rows self) command) result };
 
     // Told the commands of the run of its pair, it takes each and stays in its relation.
     ghost follows: { Follows first accepts turns relation };
@@ -43,7 +43,7 @@ pub trait Table: Copy {
 // A follower with a table from its begin on.
 #[derive(Drop)]
 pub struct TableFollower<T> {
-    table: Option<T>,
+    pub(crate) table: Option<T>,
 }
 
 impl<T: Table> TableFollower<T> {

@@ -1,5 +1,5 @@
 -- The cofactor follower: its table, what it takes, its next table and its relation.
-use Rattle.std.specs.Prelude.{◌≡◌, ℕ, ◌+◌, ◌^◌, Bool, true, false, cond, not, ◌&&◌, ◌||◌, ℤ, pos, ◌+ℤ◌, ◌-ℤ◌, ◌*ℤ◌, neg_ℤ, Some, None, Option, int_le, int_lt}
+use Rattle.std.specs.Prelude.{◌≡◌, ℕ, ◌+◌, ◌^◌, Bool, true, false, cond, not, ◌&&◌, ◌||◌, ℤ, pos, ◌+ℤ◌, ◌-ℤ◌, ◌*ℤ◌, neg_ℤ, Option, int_le, int_lt}
 use Rattle.rule.specs.Kind.{summed}
 use Rattle.rule.specs.Pairs.{order_of}
 use Rattle.rule.specs.Rule.{State}

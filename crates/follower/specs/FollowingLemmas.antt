@@ -1,11 +1,13 @@
--- Tables after lists of commands, and two followers side by side.
-use Rattle.std.specs.Prelude.{◌≡◌, ℕ, suc, Bool, ◌&&◌, List, [], ◌∷◌, ◌++◌, ℤ, Some, Option, refl}
+-- Tables after lists of commands, followers that keep a table once begun, two followers side by side, and halving.
+use Rattle.std.specs.Prelude.{◌≡◌, ℕ, suc, Bool, ◌&&◌, List, [], ◌∷◌, ◌++◌, ◌^◌, ℤ, pos, ◌+ℤ◌, ◌*ℤ◌, Some, refl}
+use Rattle.std.proofs.Common.{ap, ◌∙◌, arith}
 use Rattle.std.proofs.lemmas.Bool.{and_from}
 use Rattle.rule.specs.Rule.{State, command, after, told}
 use Rattle.rule.specs.Pairs.{start_of}
 use Rattle.rule.specs.Whole.{whole}
 use Rattle.rule.specs.declared.command.Command.{Command}
 use Rattle.rule.specs.declared.pair.AdmittedPair.{AdmittedPair}
+use Rattle.rule.proofs.Ring.{out}
 use Rattle.rule.proofs.Fuel.{told_more}
 use Rattle.follower.specs.Following.{turned, table_at, Follows, begun_first, begun_accepts, begun_turns, BegunRelated}
 
@@ -49,3 +51,10 @@ pub follows_begun : {T : Type 0} (first : AdmittedPair → T) (accepts : T → C
 follows_begun first accepts turns relation h p k r =
     let e = begun_table_at first turns p k in
     record { related = rw e (h p k r).related; takes = λ n. rw e ((h p k r).takes n) }
+
+-- half of z, beside a two more
+pub half_scaled : (z h : ℤ) (t : ℕ) (w : ℤ) → z ≡ h +ℤ h → z *ℤ pos (2 ^ t) ≡ w → h *ℤ pos (2 ^ suc t) ≡ w
+half_scaled z h t w e f = ident (pos (2 ^ t)) (pos (2 ^ suc t)) (ap pos (omega arith)) ∙ f
+  where
+    ident : (u v : ℤ) → v ≡ u +ℤ u → h *ℤ v ≡ z *ℤ u
+    ident u v g = simp (e, g, out)

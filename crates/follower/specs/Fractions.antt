@@ -1,6 +1,6 @@
 -- Why the fraction follower stays in its relation, and why its first column ends as the fraction in lowest terms.
-use Rattle.std.specs.Prelude.{◌≡◌, ℕ, zero, suc, ◌*◌, ◌^◌, ◌<◌, ◌≤◌, Bool, true, false, ℤ, pos, negsuc, ◌+ℤ◌, ◌-ℤ◌, ◌*ℤ◌, neg_ℤ, ◌<ℤ◌, Some, None, Option, ◌≢◌, int_le, int_lt, unsigned_abs, refl}
-use Rattle.std.proofs.Common.{sym, ap, ap₂, ◌∙◌, subst, subst₂, arith, mod-lt}
+use Rattle.std.specs.Prelude.{◌≡◌, ℕ, zero, suc, ◌*◌, ◌^◌, ◌<◌, ◌≤◌, Bool, true, false, ℤ, pos, negsuc, ◌+ℤ◌, ◌-ℤ◌, ◌*ℤ◌, neg_ℤ, ◌<ℤ◌, ◌≢◌, int_le, unsigned_abs, refl}
+use Rattle.std.proofs.Common.{sym, ap, ◌∙◌, subst, subst₂, arith, mod-lt}
 use Rattle.std.proofs.Math.IntN.{+ℤ_comm, *ℤ-zero, zero-*ℤ}
 use Rattle.std.proofs.lemmas.Int.{ints}
 use Rattle.rule.specs.Kind.{sign_by, summed}
@@ -8,12 +8,11 @@ use Rattle.rule.specs.Divisor.{Divides, Greatest, divisor}
 use Rattle.rule.specs.Pairs.{order_of, start_of}
 use Rattle.rule.specs.Rule.{State, command_by, command, obeyed, next, after, told}
 use Rattle.rule.specs.Whole.{odd, half, fourfold, whole, Below}
-use Rattle.rule.specs.declared.command.Command.{Command}
 use Rattle.rule.specs.declared.pair.AdmittedPair.{AdmittedPair}
 use Rattle.rule.proofs.Ring.{out, lin, *ℤ-unit, *ℤ-neg, neg-*ℤ, neg-neg}
 use Rattle.rule.proofs.Sizes.{abs-mul, factor_most, left_some, right_some, pow_some}
 use Rattle.rule.proofs.Parity.{odd_no, joins}
-use Rattle.rule.proofs.Fuel.{after_more, told_more}
+use Rattle.rule.proofs.Fuel.{after_more}
 use Rattle.rule.proofs.Whole.{zero_yes}
 use Rattle.rule.proofs.Divisor.{divisor_greatest}
 use Rattle.follower.specs.Following.{turned, table_at, Follows}
@@ -21,7 +20,7 @@ use Rattle.follower.specs.Signs.{is_negative, negated_by}
 use Rattle.follower.specs.Negated.{negated_size}
 use Rattle.follower.specs.Fraction.{modulus, sum_in, columns_exchanged, column_doubled, columns_combined, row_after, FractionRows, Kept, first_table, rows_after, Same, RowRelated, FractionRowsRelated, read_signed, numerator_of, denominator_of, Reduced, ReadsReduced, TableReduced, FractionIsReduced}
 use Rattle.follower.specs.declared.row.Row.{Row}
-use Rattle.follower.specs.FollowingLemmas.{table_more, begun_table_at}
+use Rattle.follower.specs.FollowingLemmas.{half_scaled, table_more, begun_table_at}
 use Rattle.follower.specs.Modulo.{same_refl, same_add, same-mul, sum_same, difference_same, modulus_many, read_is}
 
 -- ---- a row beside an exact one, whose entries i and j are not reduced: i·a + j·b is z over ℤ
@@ -97,15 +96,12 @@ tracks_both w r s z e f h = by h.bare h.whole h.exactly
     ident : (i j a b u v y : ℤ) → a ≡ u +ℤ u → b ≡ v +ℤ v → i *ℤ a +ℤ j *ℤ b ≡ y → y ≡ (i *ℤ u +ℤ j *ℤ v) +ℤ (i *ℤ u +ℤ j *ℤ v)
     ident i j a b u v y e f g = sym g ∙ simp (e, f, out) (omega (arith, lin))
 
-    twice : (y h u v : ℤ) → y ≡ h +ℤ h → v ≡ u +ℤ u → h *ℤ v ≡ y *ℤ u
-    twice y h u v e f = simp (e, f, out)
-
     by : (y : ℤ) → y *ℤ pos (2 ^ s.twos) ≡ z → Exactly w r s.a s.b y → Tracks w r (obeyed whole (command_by false false true true) s) z
     by y g x =
         let k = ident x.i x.j s.a s.b (half s.a) (half s.b) y (odd_no s.a e) (odd_no s.b f) x.value in
         record {
           bare = x.i *ℤ half s.a +ℤ x.j *ℤ half s.b;
-          whole = twice y _ (pos (2 ^ s.twos)) (pos (2 ^ suc s.twos)) k (ap pos (omega arith)) ∙ g;
+          whole = half_scaled y _ s.twos z k g;
           exactly = record { i = x.i; j = x.j; value = refl; left = x.left; right = x.right; kept = x.kept };
         }
 
@@ -140,15 +136,9 @@ track_start p =
     let none = same_refl (pos w) (pos 0) in
     record {
       order = refl;
-      first = record { bare = p.a; whole = *ℤ-unit p.a; exactly = record { i = pos 1; j = pos 0; value = unit_one p.a p.b; left = one; right = none; kept = (l.1, l.0) } };
-      second = record { bare = p.b; whole = *ℤ-unit p.b; exactly = record { i = pos 0; j = pos 1; value = unit_two p.a p.b; left = none; right = one; kept = (l.0, l.1) } };
+      first = record { bare = p.a; whole = *ℤ-unit p.a; exactly = record { i = pos 1; j = pos 0; value = omega (arith, ints); left = one; right = none; kept = (l.1, l.0) } };
+      second = record { bare = p.b; whole = *ℤ-unit p.b; exactly = record { i = pos 0; j = pos 1; value = omega (arith, ints); left = none; right = one; kept = (l.0, l.1) } };
     }
-  where
-    unit_one : (x y : ℤ) → pos 1 *ℤ x +ℤ pos 0 *ℤ y ≡ x
-    unit_one x y = omega (arith, ints)
-
-    unit_two : (x y : ℤ) → pos 0 *ℤ x +ℤ pos 1 *ℤ y ≡ y
-    unit_two x y = omega (arith, ints)
 
 track_next : (p : AdmittedPair) (t : FractionRows) (s : State ℤ) → RowsTrack p t s → RowsTrack p (rows_after (command whole s) t) (next whole s)
 track_next p t s h =
@@ -177,8 +167,8 @@ track_related : (p : AdmittedPair) (t : FractionRows) (s : State ℤ) → RowsTr
 track_related p t s h =
     record {
       order = h.order;
-      first = subst (λ (n : ℕ). RowRelated (modulus n) t.first s p.a) h.order (tracks_related _ t.first s p.a h.first);
-      second = subst (λ (n : ℕ). RowRelated (modulus n) t.second s p.b) h.order (tracks_related _ t.second s p.b h.second);
+      first = rw h.order at (tracks_related _ t.first s p.a h.first);
+      second = rw h.order at (tracks_related _ t.second s p.b h.second);
     }
 
 pub tables_follow : Follows first_table (λ t c. true) (λ t c. rows_after c t) FractionRowsRelated
@@ -269,20 +259,20 @@ lowest x y i j s b f some e e' g =
 
 reads_reduced : (p : AdmittedPair) (t : FractionRows) (s : State ℤ) → s.b ≡ pos 0 → Greatest (divisor s) p.a p.b → RowsTrack p t s → ReadsReduced p t
 reads_reduced p t s b g h =
-    let n = t.order in
-    let l : unsigned_abs p.a < 2 ^ n = subst (λ (m : ℕ). unsigned_abs p.a < 2 ^ m) (sym h.order) p.admitted.0 in
-    let m : unsigned_abs p.b < 2 ^ n = subst (λ (m : ℕ). unsigned_abs p.b < 2 ^ m) (sym h.order) p.admitted.1 in
-    let some = ended_some (modulus n) t.second s p.b p.admitted.2 b h.second in
-    let u = ended n t.first s p.a l some b h.first in
-    let v = ended n t.second s p.b m some b h.second in
-    by u.i v.i u.reads v.reads (subst (λ (m : ℕ). unsigned_abs u.i < 2 ^ m) h.order u.small) (subst (λ (m : ℕ). unsigned_abs v.i < 2 ^ m) h.order v.small)
-    (lowest p.a p.b u.i v.i s (int_lt v.i (pos 0)) refl p.admitted.2 u.whole v.whole g)
+    let n = order_of p in
+    let first : Tracks (modulus n) t.first s p.a = rw h.order at h.first in
+    let second : Tracks (modulus n) t.second s p.b = rw h.order at h.second in
+    let some = ended_some (modulus n) t.second s p.b p.admitted.2 b second in
+    let u = ended n t.first s p.a p.admitted.0 some b first in
+    let v = ended n t.second s p.b p.admitted.1 some b second in
+    by u.i v.i u.reads v.reads u.small v.small
+    (lowest p.a p.b u.i v.i s (is_negative v.i) refl p.admitted.2 u.whole v.whole g)
   where
-    by : (i j : ℤ) → read_signed t.order t.first.left ≡ i → read_signed t.order t.second.left ≡ j → unsigned_abs i < 2 ^ order_of p → unsigned_abs j < 2 ^ order_of p
+    by : (i j : ℤ) → read_signed (order_of p) t.first.left ≡ i → read_signed (order_of p) t.second.left ≡ j → unsigned_abs i < 2 ^ order_of p → unsigned_abs j < 2 ^ order_of p
         → Reduced p.a p.b (negated_by (is_negative j) i) (negated_by (is_negative j) j) → ReadsReduced p t
     by i j e f l m r =
-        let nu : negated_by (is_negative j) i ≡ numerator_of t = ap₂ (λ x y. negated_by (is_negative y) x) (sym e) (sym f) in
-        let de : negated_by (is_negative j) j ≡ denominator_of t = ap (λ y. negated_by (is_negative y) y) (sym f) in
+        let nu : negated_by (is_negative j) i ≡ numerator_of t = rw (h.order, e, f) in
+        let de : negated_by (is_negative j) j ≡ denominator_of t = rw (h.order, f) in
         record {
           reduced = subst₂ (Reduced p.a p.b) nu de r;
           numerator = subst (Below (order_of p)) nu (omega (arith, l, negated_size (is_negative j) i));

@@ -1,6 +1,6 @@
 -- The cofactor follower takes every command of the run of its pair, and stays in its relation.
-use Rattle.std.specs.Prelude.{◌≡◌, ℕ, zero, suc, ◌+◌, ◌*◌, ◌^◌, ◌≤◌, Bool, true, false, not, ◌&&◌, ◌||◌, ◌⊎◌, List, [], ◌∷◌, ℤ, pos, ◌+ℤ◌, ◌-ℤ◌, ◌*ℤ◌, neg_ℤ, Some, ◌≢◌, int_le, int_lt, unsigned_abs, refl}
-use Rattle.std.proofs.Common.{sym, ap, ap₂, ◌∙◌, subst, subst₂, inl, inr, arith, pow-add, pow_pos}
+use Rattle.std.specs.Prelude.{◌≡◌, ℕ, zero, suc, ◌+◌, ◌*◌, ◌^◌, ◌≤◌, Bool, true, false, not, ◌&&◌, ◌||◌, ◌⊎◌, ℤ, pos, ◌+ℤ◌, ◌-ℤ◌, ◌*ℤ◌, neg_ℤ, Some, ◌≢◌, int_le, int_lt, unsigned_abs, refl}
+use Rattle.std.proofs.Common.{sym, ap, ap₂, ◌∙◌, subst₂, inl, inr, arith, pow-add, pow_pos}
 use Rattle.std.proofs.Math.IntN.{+ℤ_comm}
 use Rattle.std.proofs.lemmas.Int.{ints}
 use Rattle.std.proofs.lemmas.Bool.{both_ways, or_parts, or_left, or_right, and_from}
@@ -14,10 +14,10 @@ use Rattle.rule.specs.declared.command.Command.{Command}
 use Rattle.rule.specs.declared.pair.AdmittedPair.{AdmittedPair}
 use Rattle.rule.proofs.Ring.{out, lin, *ℤ-unit}
 use Rattle.rule.proofs.Parity.{odd_no, odd_double, Joins, joins, xor, parity}
-use Rattle.rule.proofs.Fuel.{after_more, told_more}
+use Rattle.rule.proofs.Fuel.{after_more}
 use Rattle.follower.specs.Following.{turned, table_at, Follows}
 use Rattle.follower.specs.Cofactor.{CofactorRows, first_rows, swapped, combined, corrected, evened, halved_row, in_range, row_fits, rows_take, rows_turn, CofactorRowsRelated, cofactor_first, cofactor_turns}
-use Rattle.follower.specs.FollowingLemmas.{table_more, begun_table_at}
+use Rattle.follower.specs.FollowingLemmas.{half_scaled, table_more, begun_table_at}
 
 -- ---- the values of the rows
 pub record Values (u z : ℤ) (r : CofactorRows) : Type 0 where
@@ -163,12 +163,6 @@ row_one c d x y u p q r = ap₂ (λ i j. i *ℤ x +ℤ j *ℤ y) p q ∙ unit x 
 
 row_two : (e f x y v : ℤ) → e ≡ pos 0 → f ≡ pos 1 → y ≡ v → e *ℤ x +ℤ f *ℤ y ≡ v
 row_two e f x y v p q r = +ℤ_comm (e *ℤ x) (f *ℤ y) ∙ row_one f e y x v q p r
-
-half_scaled : (z h : ℤ) (t : ℕ) (w : ℤ) → z ≡ h +ℤ h → z *ℤ pos (2 ^ t) ≡ w → h *ℤ pos (2 ^ suc t) ≡ w
-half_scaled z h t w e f = ident (pos (2 ^ t)) (pos (2 ^ suc t)) (ap pos (omega arith)) ∙ f
-  where
-    ident : (u v : ℤ) → v ≡ u +ℤ u → h *ℤ v ≡ z *ℤ u
-    ident u v g = simp (e, g, out)
 
 abbrev Goes : AdmittedPair → Command → State ℤ → CofactorRows → Type 0
 Goes p k s r = (rows_take r k ≡ true) × Kept p (obeyed whole k s) (rows_turn r k)

@@ -12,6 +12,7 @@ use rule::command::Sign;
 use rule::order::Order;
 use rule::words::{halved, is_odd};
 
+// Whether z lies from -2^(n+2) to 2^(n+2) - 1.
 fn in_range(order: Order, z: i64) -> bool
     ensures { result ≡ in_range order.value z }
 {
@@ -20,12 +21,14 @@ fn in_range(order: Order, z: i64) -> bool
 }
 
 impl Row<i64> {
+    // Whether both entries are even.
     pub(crate) fn is_even(self) -> bool
         ensures { result ≡ (not (odd self.left) && not (odd self.right)) }
     {
         !is_odd(self.left) & !is_odd(self.right)
     }
 
+    // Both entries are halved.
     pub(crate) fn halved(self) -> Row<i64>
         ensures { result ≡ record { left = half self.left; right = half self.right } }
     {
@@ -42,7 +45,7 @@ impl Row<i64> {
         in_range(order, self.left) & in_range(order, self.right)
     }
 
-    // The row plus or minus another.
+    // The row plus or minus another. The engine has a sum by a sign of its own: one that both call would be public, with a `requires`.
     pub(crate) fn summed(self, sign: Sign, other: Row<i64>) -> Row<i64>
         requires { Within (2 ^ 59) self × Within (2 ^ 59) other }
         ensures { result ≡ record { left = summed whole sign self.left other.left; right = summed whole sign self.right other.right } }

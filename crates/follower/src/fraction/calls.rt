@@ -44,6 +44,7 @@ impl Table for KeptRows {
 
     ghost follows = { tables_follow };
 
+    #[tactic(auto, using(crate::specs::Modulo::modulus_many))]
     fn start(pair: AdmittedPair) -> KeptRows {
         let order = pair.order();
         KeptRows {

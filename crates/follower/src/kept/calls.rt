@@ -8,6 +8,7 @@ use crate::row::{Row, exchanged};
 use rule::command::{Command, Sign};
 use rule::order::Order;
 
+// x + y modulo 2^(n+2).
 fn sum_in(order: Order, x: u64, y: u64) -> u64
     requires { (x ≤ modulus order.value) × (y ≤ modulus order.value) }
     ensures { result ≡ sum_in (modulus order.value) x y }
@@ -16,6 +17,7 @@ fn sum_in(order: Order, x: u64, y: u64) -> u64
     (x + y) % modulus
 }
 
+// x - y modulo 2^(n+2).
 fn difference_in(order: Order, x: u64, y: u64) -> u64
     requires { (x ≤ modulus order.value) × (y ≤ modulus order.value) }
     ensures { result ≡ difference_in (modulus order.value) x y }

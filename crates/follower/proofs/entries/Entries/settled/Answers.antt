@@ -6,5 +6,7 @@ use Rattle.follower.proofs.entries.Entries.settled.Goals as goal
 
 pub then-requires : goal.then-requires
 then-requires c = λ t.
-    let w : Within (2 ^ 58) c.halved-halved.result = range_within c.args.self.order.value c.halved-halved.result c.args.self.order.admitted.1 (sym c.fits.ensures ∙ (and_parts _ _ t).1) in
+    let n = c.args.self.order in
+    let e = sym c.fits.ensures ∙ (and_parts c.is_even-2.result c.fits.result t).1 in
+    let w : Within (2 ^ 58) c.halved-halved.result = range_within n.value c.halved-halved.result n.admitted.1 e in
     search rules

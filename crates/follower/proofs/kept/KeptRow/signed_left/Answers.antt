@@ -4,11 +4,7 @@ use Rattle.follower.specs.Modulo.{pows}
 use Rattle.follower.proofs.kept.KeptRow.signed_left.Goals as goal
 
 pub returns-then-entry-modulus-clause-is : goal.returns-then-entry-modulus-clause-is
-returns-then-entry-modulus-clause-is c =
-    let p = pows c.args.self.order.value in
-    grind (arith, ints, p, c.modulus-modulus.ensures.is, c.if-entry-modulus.true)
+returns-then-entry-modulus-clause-is c = grind (arith, ints, pows c.args.self.order.value)
 
 pub returns-else-entry-modulus-clause-is : goal.returns-else-entry-modulus-clause-is
-returns-else-entry-modulus-clause-is c =
-    let p = pows c.args.self.order.value in
-    grind (arith, ints, p, c.modulus-modulus.ensures.is, c.modulus-modulus.ensures.fits, c.if-entry-modulus.false)
+returns-else-entry-modulus-clause-is c = grind (arith, ints, pows c.args.self.order.value)

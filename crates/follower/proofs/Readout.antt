@@ -21,8 +21,7 @@ use Rattle.follower.specs.Rows.{Phase, Kept, rows_at, kept_at, cofactor_table_le
 -- ---- the sum
 -- the row, with the sign of a, gives |a|
 row_signed : (m : Bool) (a c d x y : ℤ) → is_negative a ≡ m → c *ℤ x +ℤ d *ℤ y ≡ a → negated_by m c *ℤ x +ℤ negated_by m d *ℤ y ≡ pos (nat_abs a)
-row_signed true a c d x y e h = simp out (omega (arith, ints))
-row_signed false a c d x y e h = h ∙ omega (arith, ints)
+row_signed m a c d x y e h = grind (arith, ints)
 
 row_moved : (p o : Bool) (c d x y : ℤ) → moved p o c y *ℤ x +ℤ moved p o d (neg_ℤ x) *ℤ y ≡ c *ℤ x +ℤ d *ℤ y
 row_moved false o c d x y = refl
@@ -31,26 +30,15 @@ row_moved true false c d x y = simp out (omega (arith, lin))
 
 -- ---- the size of u
 moved_near : (p q : Bool) (c y : ℤ) → is_negative c ≡ p → is_negative y ≡ q → nat_abs y < 2 * nat_abs c → 2 * nat_abs c ≤ 3 * nat_abs y → 2 * nat_abs (moved true (alike p q) c y) ≤ nat_abs y
-moved_near true true c y e f l h = omega (arith, ints)
-moved_near true false c y e f l h = omega (arith, ints)
-moved_near false true c y e f l h = omega (arith, ints)
-moved_near false false c y e f l h = omega (arith, ints)
+moved_near p q c y e f l h = grind (arith, ints)
 
 u_small : (p : Bool) (c y : ℤ) → ltb (nat_abs y) (2 * nat_abs c) ≡ p → 2 * nat_abs c ≤ 3 * nat_abs y → 2 * nat_abs (moved p (alike (is_negative c) (is_negative y)) c y) ≤ nat_abs y
-u_small false c y e h = omega (arith, ltb-false (nat_abs y) (2 * nat_abs c) e)
-u_small true c y e h = moved_near (is_negative c) (is_negative y) c y refl refl (ltb-true (nat_abs y) (2 * nat_abs c) e) h
+u_small p c y e h = grind (arith, ints)
 
 -- ---- the size of v, from u·x + v·y = g and the size of u
 -- twice |v| times |y| is at most 2g + 2|u||x|
 v_bound : (g : ℕ) (x y u v : ℤ) → u *ℤ x +ℤ v *ℤ y ≡ pos g → nat_abs v * nat_abs y ≤ g + nat_abs u * nat_abs x
-v_bound g x y u v e =
-    let p = abs-mul u x in
-    let q = abs-mul v y in
-    let r : nat_abs (v *ℤ y) ≤ g + nat_abs (u *ℤ x) = bound (u *ℤ x) (v *ℤ y) e in
-    omega arith
-  where
-    bound : (i j : ℤ) → i +ℤ j ≡ pos g → nat_abs j ≤ g + nat_abs i
-    bound i j e = omega (arith, ints)
+v_bound g x y u v e = grind (arith, ints)
 
 -- g divides y twice or more often
 v_small_far : (g X A U V : ℕ) → 1 ≤ X → 2 * g ≤ X → 2 * U ≤ X → V * X ≤ g + U * A → 2 * V ≤ A + 1
@@ -123,8 +111,7 @@ v_small g x y q r u v e f o some_x some_y h s = by (nat_abs r) refl
 
 -- ---- the end of a run
 not_fresh : (s : State ℤ) (r : CofactorRows) → s.b ≡ pos 0 → 1 ≤ nat_abs r.y → Phase s r → (odd r.x || odd r.y) ≡ true
-not_fresh s r z o (inl h) = h.1
-not_fresh s r z o (inr h) = absurd (let e = h.is_y in omega (arith, ints, e, z, o))
+not_fresh s r z o h = grind (arith, ints)
 
 scaled_sum : (u v x y t a : ℤ) → u *ℤ x +ℤ v *ℤ y ≡ a → u *ℤ (x *ℤ t) +ℤ v *ℤ (y *ℤ t) ≡ a *ℤ t
 scaled_sum u v x y t a e = simp (← e, out)

@@ -20,16 +20,14 @@ range_size n z l e =
 
 -- the sum or the difference of two rows is twice as large at most
 pub within_summed : (g : Sign) (r s : Row ℤ) → Within (2 ^ 58) r → Within (2 ^ 58) s → Within (2 ^ 59) (record { left = summed whole g r.left s.left; right = summed whole g r.right s.right })
-within_summed Plus r s h k = (omega (arith, ints, h.0, k.0), omega (arith, ints, h.1, k.1))
-within_summed Minus r s h k = (omega (arith, ints, h.0, k.0), omega (arith, ints, h.1, k.1))
+within_summed g r s h k = grind (arith, ints)
 
 pub range_within : (n : ℕ) (r : Row ℤ) → n ≤ 56 → (in_range n r.left && in_range n r.right) ≡ true → Within (2 ^ 58) r
 range_within n r l e = let w = and_parts _ _ e in (range_size n r.left l w.0, range_size n r.right l w.1)
 
 half_size : (z : ℤ) → nat_abs (half z) ≤ nat_abs z
 unfolding half
-half_size (pos a) = omega arith
-half_size (negsuc a) = omega arith
+half_size z = grind (arith, ints)
 
 pub within_halved : (m : ℕ) (r : Row ℤ) → Within m r → Within m (record { left = half r.left; right = half r.right })
 within_halved m r h = (omega (arith, half_size r.left), omega (arith, half_size r.right))

@@ -33,8 +33,7 @@ record Exactly (w : ℕ) (r : Row ℕ) (a b z : ℤ) : Type 0 where
   kept : Kept w r
 
 exactly_exchanged : (w : ℕ) (r : Row ℕ) (a b z : ℤ) → Exactly w r a b z → Exactly w (columns_exchanged true r) b a z
-exactly_exchanged w r a b z h =
-    record { i = h.j; j = h.i; value = +ℤ_comm (h.j *ℤ b) (h.i *ℤ a) ∙ h.value; left = h.right; right = h.left; kept = (h.kept.1, h.kept.0) }
+exactly_exchanged w r a b z h = grind (arith, ints)
 
 -- b is twice k
 exactly_doubled : (w : ℕ) (r : Row ℕ) (a b z k : ℤ) → b ≡ k +ℤ k → Exactly w r a b z → Exactly w (column_doubled w r) a k z
@@ -183,11 +182,11 @@ record Ended (n : ℕ) (r : Row ℕ) (s : State ℤ) (z : ℤ) : Type 0 where
   whole : s.a *ℤ pos (2 ^ s.twos) *ℤ i ≡ z
 
 dropped : (i j a b y : ℤ) → b ≡ pos 0 → i *ℤ a +ℤ j *ℤ b ≡ y → i *ℤ a ≡ y
-dropped i j a b y e g = let q : j *ℤ b ≡ pos 0 = ap (λ k. j *ℤ k) e ∙ *ℤ-zero j in omega (arith, lin)
+dropped i j a b y e g = grind (arith, ints)
 
 -- a is not 0 at the end of a run that had a b other than 0
 ended_some : (w : ℕ) (r : Row ℕ) (s : State ℤ) (z : ℤ) → (z ≢ pos 0) → s.b ≡ pos 0 → Tracks w r s z → s.a ≢ pos 0
-ended_some w r s z some b h = right_some h.exactly.i s.a h.bare (dropped h.exactly.i h.exactly.j s.a s.b h.bare b h.exactly.value) (left_some h.bare (pos (2 ^ s.twos)) z h.whole some)
+ended_some w r s z some b h = grind (arith, ints)
 
 ended : (n : ℕ) (r : Row ℕ) (s : State ℤ) (z : ℤ) → unsigned_abs z < 2 ^ n → (s.a ≢ pos 0) → s.b ≡ pos 0 → Tracks (modulus n) r s z → Ended n r s z
 ended n r s z l some b h =
@@ -217,22 +216,18 @@ divides_scaled (negsuc g) i x d e h = record { quotient = neg_ℤ h.quotient; ex
 
 -- g·d is no larger than g, and d divides j, which is not 0
 only_one : (g d : ℕ) (j : ℤ) → 0 < g → g * d ≤ g → (j ≢ pos 0) → Divides (pos d) j → d ≡ 1
-only_one g zero j l m some h = absurd (some (h.exact ∙ zero-*ℤ h.quotient))
-only_one g (suc zero) j l m some h = refl
-only_one g (suc (suc d)) j l m some h = absurd (omega arith)
+only_one g d j l m some h = grind (arith, ints)
 
 -- ---- both negated or neither
 negated_crossed : (b : Bool) (i j x y : ℤ) → i *ℤ y ≡ j *ℤ x → negated_by b i *ℤ y ≡ negated_by b j *ℤ x
-negated_crossed false i j x y e = e
-negated_crossed true i j x y e = neg-*ℤ i y ∙ ap neg_ℤ e ∙ sym (neg-*ℤ j x)
+negated_crossed b i j x y e = grind (arith, ints)
 
 negated_divides : (b : Bool) (d i : ℤ) → Divides d (negated_by b i) → Divides d i
 negated_divides false d i h = h
 negated_divides true d i h = record { quotient = neg_ℤ h.quotient; exact = sym (neg-neg i) ∙ ap neg_ℤ h.exact ∙ sym (*ℤ-neg d h.quotient) }
 
 negated_above : (b : Bool) (j : ℤ) → is_negative j ≡ b → (j ≢ pos 0) → pos 0 <ℤ negated_by b j
-negated_above true j e some = omega (arith, ints)
-negated_above false j e some = omega (arith, ints)
+negated_above b j e some = grind (arith, ints)
 
 -- ---- the read-out
 lowest : (x y i j : ℤ) (s : State ℤ) (b : Bool) → is_negative j ≡ b → (y ≢ pos 0) → s.a *ℤ pos (2 ^ s.twos) *ℤ i ≡ x → s.a *ℤ pos (2 ^ s.twos) *ℤ j ≡ y

@@ -41,7 +41,7 @@ values_halved u z w r h p q e =
     ident e f i j x y p q r = omega (arith, lin, simp (p, q, out) at r)
 
 values_swapped : (u z : ℤ) (r : CofactorRows) → Values u z r → Values z u (swapped true r)
-values_swapped u z r h = record { first = h.second; second = h.first }
+values_swapped u z r h = grind (arith, ints)
 
 values_combined : (u v : ℤ) (r : CofactorRows) (g : Sign) → Values u v r → Values u (summed whole g u v) (combined g r)
 values_combined u v r g h = record { first = h.first; second = ident g r.c r.d r.e r.f r.x r.y h.first h.second }
@@ -63,8 +63,7 @@ corrected_even r false e h k = or_parts (odd r.e) (odd r.f) e
 corrected_even r true e h k = simp parity (evens (odd r.e) (odd r.f) (odd r.x) (odd r.y) h k e)
 
 corrected_size : (E F : ℕ) (r : CofactorRows) (o : Bool) → unsigned_abs r.e ≤ E → unsigned_abs r.f ≤ F → (unsigned_abs (corrected o r).e ≤ E + unsigned_abs r.y) × (unsigned_abs (corrected o r).f ≤ F + unsigned_abs r.x)
-corrected_size E F r false i j = (omega arith, omega arith)
-corrected_size E F r true i j = (omega (arith, ints), omega (arith, ints))
+corrected_size E F r o i j = grind (arith, ints)
 
 half_size : (z : ℤ) (H : ℕ) → odd z ≡ false → unsigned_abs z ≤ H → 2 * unsigned_abs (half z) ≤ H
 half_size z H e h = omega (arith, ints, odd_no z e)
@@ -90,8 +89,7 @@ halving E F u z w r h e o k l =
     }
 
 summed_size : (g : Sign) (x y : ℤ) (H : ℕ) → 2 * unsigned_abs x ≤ H → 2 * unsigned_abs y ≤ H → unsigned_abs (summed whole g x y) ≤ H
-summed_size Plus x y H h k = omega (arith, ints)
-summed_size Minus x y H h k = omega (arith, ints)
+summed_size g x y H h k = grind (arith, ints)
 
 -- plus or minus of rows whose values are odd
 joining : (E F : ℕ) (u v w : ℤ) (r : CofactorRows) (q : Bool) → Joins u v w q → Values u v r → (odd r.x || odd r.y) ≡ true
@@ -148,21 +146,16 @@ pub record Kept (p : AdmittedPair) (s : State ℤ) (r : CofactorRows) : Type 0 w
 
 -- while any command but B comes, x or y is odd
 some_odd : (s : State ℤ) (r : CofactorRows) → (odd s.a || odd s.b) ≡ true → Phase s r → (odd r.x || odd r.y) ≡ true
-some_odd s r o (inl h) = h.1
-some_odd s r o (inr h) = rw (h.is_x, h.is_y) o
+some_odd s r o h = grind (arith, ints)
 
 fresh : (s : State ℤ) (r : CofactorRows) → odd s.a ≡ false → Phase s r → Fresh s r
-fresh s r e (inl h) = absurd (both_ways (odd s.a) e h.0)
-fresh s r e (inr h) = h
+fresh s r e h = grind (arith, ints)
 
 row_one : (c d x y u : ℤ) → c ≡ pos 1 → d ≡ pos 0 → x ≡ u → c *ℤ x +ℤ d *ℤ y ≡ u
-row_one c d x y u p q r = ap₂ (λ i j. i *ℤ x +ℤ j *ℤ y) p q ∙ unit x y ∙ r
-  where
-    unit : (x y : ℤ) → pos 1 *ℤ x +ℤ pos 0 *ℤ y ≡ x
-    unit x y = omega (arith, ints)
+row_one c d x y u p q r = grind (arith, ints)
 
 row_two : (e f x y v : ℤ) → e ≡ pos 0 → f ≡ pos 1 → y ≡ v → e *ℤ x +ℤ f *ℤ y ≡ v
-row_two e f x y v p q r = +ℤ_comm (e *ℤ x) (f *ℤ y) ∙ row_one f e y x v q p r
+row_two e f x y v p q r = grind (arith, ints)
 
 abbrev Goes : AdmittedPair → Command → State ℤ → CofactorRows → Type 0
 Goes p k s r = (rows_take r k ≡ true) × Kept p (obeyed whole k s) (rows_turn r k)
@@ -244,23 +237,7 @@ unfolding command
 goes p s r h = goes_by p s r (odd s.a) (odd s.b) (fourfold (s.a +ℤ s.b)) (int_le (pos 0) s.δ) refl refl refl h
 
 kept_start : (p : AdmittedPair) → Kept p (start_of p) (first_rows p)
-kept_start p =
-    let k = pow_pos (order_of p) in
-    let h = p.admitted in
-    let o = some p.b h.2 in
-    record {
-      ground = record { order = refl; of_a = *ℤ-unit p.a; of_b = *ℤ-unit p.b; some_y = o; size_x = omega (arith, h.0); size_y = omega (arith, h.1) };
-      values = record { first = row_one (pos 1) (pos 0) p.a p.b p.a refl refl refl; second = row_two (pos 0) (pos 1) p.a p.b p.b refl refl refl };
-      size_c = omega (arith, o);
-      size_d = omega arith;
-      size_e = omega arith;
-      size_f = omega arith;
-      tight = λ _. (omega arith, omega arith);
-      phase = inr (record { is_x = refl; is_y = refl; is_c = refl; is_d = refl; is_e = refl; is_f = refl });
-    }
-  where
-    some : (y : ℤ) → (y ≢ pos 0) → 1 ≤ unsigned_abs y
-    some y n = omega (arith, ints)
+kept_start p = grind (arith, ints)
 
 -- the rows after k commands of the run
 abbrev pub rows_at : AdmittedPair → ℕ → CofactorRows

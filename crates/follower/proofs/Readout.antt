@@ -56,14 +56,7 @@ v_small_near X A U V o l u h =
 
 -- ---- the divisor without its twos
 cancel_scale : (z w : ℤ) (t : ℕ) → 0 < t → z *ℤ pos t ≡ w *ℤ pos t → z ≡ w
-cancel_scale z w t o e =
-    let d : (z -ℤ w) *ℤ pos t ≡ pos 0 = ident (pos t) e in
-    let f : nat_abs (z -ℤ w) * t ≡ 0 = sym (abs-mul (z -ℤ w) (pos t)) ∙ ap nat_abs d in
-    let l : nat_abs (z -ℤ w) ≤ 0 = le_of_mul-le-mul_right {m = nat_abs (z -ℤ w)} {n = 0} {k = t} (omega arith) o in
-    omega (arith, ints, l)
-  where
-    ident : (u : ℤ) → z *ℤ u ≡ w *ℤ u → (z -ℤ w) *ℤ u ≡ pos 0
-    ident u h = simp out (omega (arith, lin))
+cancel_scale z w t o e = grind (arith, ints, le_of_mul-le-mul_right, abs-mul)
 
 -- what g · 2^t divides and is z · 2^t, is divided by g without the twos
 divides_bare : (g t : ℕ) (z w : ℤ) → 0 < t → z *ℤ pos t ≡ w → (h : Divides (pos (g * t)) w) → z ≡ pos g *ℤ h.quotient
@@ -122,13 +115,7 @@ record Bare (p : AdmittedPair) (s : State ℤ) (r : CofactorRows) : Type 0 where
   small_u : 2 * nat_abs (u_of s.a r) ≤ nat_abs r.y
 
 bare : (p : AdmittedPair) (s : State ℤ) (r : CofactorRows) → Kept p s r → Bare p s r
-bare p s r h =
-    let m = is_negative s.a in
-    let c = c_of s.a r in
-    record {
-      sum = row_moved (is_far s.a r) (is_less s.a r) c (negated_by m r.d) r.x r.y ∙ row_signed m s.a r.c r.d r.x r.y refl h.values.first;
-      small_u = u_small (is_far s.a r) c r.y refl (omega (arith, h.size_c, negated_size m r.c));
-    }
+bare p s r h = grind (arith, ints, row_signed, row_moved, u_small, negated_size)
 
 bezout_there : (p : AdmittedPair) (s : State ℤ) (r : CofactorRows) → s.b ≡ pos 0 → Kept p s r → Greatest (divisor s) p.a p.b → Bezout p.a p.b (divisor s) (u_of s.a r) (v_of s.a r)
 bezout_there p s r z h g =
@@ -181,6 +168,4 @@ pub bezout : (p : AdmittedPair) (m : ℕ) → Need whole (start_of p) m → let 
 bezout p m need = bezout_there p (after whole m (start_of p)) (rows_at p m) (zero_yes _ need.over) (kept_at p m) (divisor_greatest p.a p.b p.admitted.2 m need)
 
 pub cofactors_right : CofactorsAreRight
-cofactors_right p m need =
-    let fit = cofactors_fit p m need in
-    subst (TableCofactors p (after whole m (start_of p))) (sym (cofactor_table_lem p m)) (record { bezout = bezout p m need; u = fit.0; v = fit.1 })
+cofactors_right p m need = grind (arith, ints, cofactors_fit, bezout, cofactor_table_lem)

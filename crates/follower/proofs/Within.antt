@@ -23,11 +23,11 @@ pub within_summed : (g : Sign) (r s : Row ℤ) → Within (2 ^ 58) r → Within 
 within_summed g r s h k = grind (arith, ints)
 
 pub range_within : (n : ℕ) (r : Row ℤ) → n ≤ 56 → (in_range n r.left && in_range n r.right) ≡ true → Within (2 ^ 58) r
-range_within n r l e = let w = and_parts _ _ e in (range_size n r.left l w.0, range_size n r.right l w.1)
+range_within n r l e = grind (arith, range_size, and_parts)
 
 half_size : (z : ℤ) → nat_abs (half z) ≤ nat_abs z
 unfolding half
 half_size z = grind (arith, ints)
 
 pub within_halved : (m : ℕ) (r : Row ℤ) → Within m r → Within m (record { left = half r.left; right = half r.right })
-within_halved m r h = (omega (arith, half_size r.left), omega (arith, half_size r.right))
+within_halved m r h = grind (arith, half_size)

@@ -17,7 +17,7 @@ turned_more turns t [] c = refl
 turned_more turns t (x ∷ cs) c = turned_more turns (turns t x) cs c
 
 pub table_more : {T : Type 0} (first : AdmittedPair → T) (turns : T → Command → T) (p : AdmittedPair) (k : ℕ) → table_at first turns p (suc k) ≡ turns (table_at first turns p k) (command whole (after whole k (start_of p)))
-table_more first turns p k = rw (told_more whole k (start_of p)) (turned_more turns (first p) (told whole k (start_of p)) (command whole (after whole k (start_of p))))
+table_more first turns p k = grind (arith, turned_more, told_more)
 
 -- side by side, each table goes its own way
 pub turned_beside : {T U : Type 0} (f : T → Command → T) (g : U → Command → U) (t : T) (u : U) (cs : List Command) → turned {T = T × U} (λ x c. (f x.0 c, g x.1 c)) (t, u) cs ≡ (turned f t cs, turned g u cs)
@@ -43,7 +43,7 @@ begun_turned turns t [] = refl
 begun_turned turns t (c ∷ cs) = begun_turned turns (turns t c) cs
 
 pub begun_table_at : {T : Type 0} (first : AdmittedPair → T) (turns : T → Command → T) (p : AdmittedPair) (k : ℕ) → table_at (begun_first first) (begun_turns turns) p k ≡ Some (table_at first turns p k)
-begun_table_at first turns p k = begun_turned turns (first p) (told whole k (start_of p))
+begun_table_at first turns p k = grind (arith, begun_turned)
 
 pub follows_begun : {T : Type 0} (first : AdmittedPair → T) (accepts : T → Command → Bool) (turns : T → Command → T) (relation : AdmittedPair → T → State ℤ → Type 0)
     → Follows first accepts turns relation

@@ -119,7 +119,7 @@ tracks_by w r s z true true o true e f g h =
 
 tracks_next : (w : ℕ) (r : Row ℕ) (s : State ℤ) (z : ℤ) → Tracks w r s z → Tracks w (row_after w (command whole s) r) (next whole s) z
 unfolding next command
-tracks_next w r s z h = tracks_by w r s z (odd s.a) (odd s.b) (fourfold (s.a +ℤ s.b)) (int_le (pos 0) s.δ) refl refl refl h
+tracks_next w r s z h = grind (arith, ints, tracks_by)
 
 -- ---- the table
 record RowsTrack (p : AdmittedPair) (t : FractionRows) (s : State ℤ) : Type 0 where
@@ -140,12 +140,7 @@ track_start p =
     }
 
 track_next : (p : AdmittedPair) (t : FractionRows) (s : State ℤ) → RowsTrack p t s → RowsTrack p (rows_after (command whole s) t) (next whole s)
-track_next p t s h =
-    record {
-      order = h.order;
-      first = tracks_next (modulus t.order) t.first s p.a h.first;
-      second = tracks_next (modulus t.order) t.second s p.b h.second;
-    }
+track_next p t s h = grind (arith, ints, tracks_next)
 
 -- the table after k commands of the run
 abbrev fractions_at : AdmittedPair → ℕ → FractionRows
@@ -163,12 +158,7 @@ tracks_related w r s z h =
     record { bare = h.bare; whole = h.whole; same = subst (Same (pos w) (pos r.left *ℤ s.a +ℤ pos r.right *ℤ s.b)) x.value (same_add (same-mul s.a x.left) (same-mul s.b x.right)) }
 
 track_related : (p : AdmittedPair) (t : FractionRows) (s : State ℤ) → RowsTrack p t s → FractionRowsRelated p t s
-track_related p t s h =
-    record {
-      order = h.order;
-      first = rw h.order at (tracks_related _ t.first s p.a h.first);
-      second = rw h.order at (tracks_related _ t.second s p.b h.second);
-    }
+track_related p t s h = grind (arith, ints, tracks_related)
 
 pub tables_follow : Follows first_table (λ t c. true) (λ t c. rows_after c t) FractionRowsRelated
 tables_follow p k _ = record { related = track_related p _ _ (track p k); takes = λ _. refl }

@@ -44,20 +44,10 @@ near_by w q c z (pos (suc (suc m))) l h k f = absurd (omega (arith, ints))
 near_by w q c z (negsuc m) l h k f = absurd (omega (arith, ints))
 
 pub pows : (n : ℕ) → (2 ^ (n + 2) ≡ 4 * 2 ^ n) × (2 ^ (n + 1) ≡ 2 * 2 ^ n)
-pows n = let p = pow-add 2 n 2 in let q = pow-add 2 n 1 in (omega arith, omega arith)
+pows n = grind (arith, pow-add)
 
 pub modulus_many : (n : ℕ) → (0 < modulus n) × (1 < modulus n)
-modulus_many n = let p = pows n in let q = pow_pos n in (omega arith, omega arith)
+modulus_many n = grind (arith, pows, pow_pos)
 
 pub read_is : (n c : ℕ) (z : ℤ) → c < modulus n → unsigned_abs z < 2 ^ n → Same (pos (modulus n)) (pos c) z → read_signed n c ≡ z
-read_is n c z l h s = by (near_by (2 ^ (n + 2)) (2 ^ n) c z s.times (omega (arith, (pows n).0)) l h s.is)
-  where
-    by : (pos c ≡ z) ⊎ (pos c ≡ z +ℤ pos (2 ^ (n + 2))) → read_signed n c ≡ z
-    by (inl f) =
-        let p = pows n in
-        let t : nat_lt c (2 ^ (n + 1)) ≡ true = lt-ltb _ _ (omega (arith, ints)) in
-        cond-true _ _ _ t ∙ f
-    by (inr f) =
-        let p = pows n in
-        let t : nat_lt c (2 ^ (n + 1)) ≡ false = le-ltb _ _ (omega (arith, ints)) in
-        cond-false _ _ _ t ∙ omega (arith, ints)
+read_is n c z l h s = grind (arith, ints, near_by, pows, lt-ltb, le-ltb, cond-true, cond-false)

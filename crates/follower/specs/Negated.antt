@@ -5,5 +5,4 @@ use Rattle.std.proofs.lemmas.Int.{ints}
 use Rattle.follower.specs.Signs.{negated_by}
 
 pub negated_size : (m : Bool) (z : ℤ) → unsigned_abs (negated_by m z) ≡ unsigned_abs z
-negated_size true z = omega (arith, ints)
-negated_size false z = refl
+negated_size m z = grind (arith, ints)

@@ -100,16 +100,10 @@ joining E F u v w r q j h o kc kd ke kf =
     (summed_size (sign_by q) r.c r.e _ kc ke) (summed_size (sign_by q) r.d r.f _ kd kf)
 
 in_range_lem : (n : ℕ) (z : ℤ) → unsigned_abs z ≤ 2 * 2 ^ n → in_range n z ≡ true
-in_range_lem n z h =
-    let p = pow-add 2 n 2 in
-    let q = pow_pos n in
-    let l : int_le (neg_ℤ (pos (2 ^ (n + 2)))) z ≡ true = sym (omega (arith, ints)) in
-    let r : int_lt z (pos (2 ^ (n + 2))) ≡ true = sym (omega (arith, ints)) in
-    and_from _ _ l r
+in_range_lem n z h = grind (arith, ints, pow-add, pow_pos, and_from)
 
 row_fits_lem : (E F : ℕ) (u w : ℤ) (r : CofactorRows) → unsigned_abs r.x ≤ 2 ^ r.n → unsigned_abs r.y ≤ 2 ^ r.n → E ≤ 3 * 2 ^ r.n → F ≤ 3 * 2 ^ r.n → Halving E F u w r → row_fits (evened r) ≡ true
-row_fits_lem E F u w r i j k l h =
-    and_from _ _ (and_from _ _ (and_from _ _ (ap not h.even_e) (ap not h.even_f)) (in_range_lem r.n _ (omega (arith, h.size_e)))) (in_range_lem r.n _ (omega (arith, h.size_f)))
+row_fits_lem E F u w r i j k l h = grind (arith, ints, in_range_lem, and_from)
 
 -- ---- what the follower keeps
 -- before any command but B: the rows are 1, 0 and 0, 1, and the pair is where the rule stands

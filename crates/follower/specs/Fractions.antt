@@ -1,7 +1,7 @@
 -- Why the fraction follower stays in its relation, and why its first column ends as the fraction in lowest terms.
-use Rattle.std.specs.Prelude.{◌≡◌, ℕ, zero, suc, ◌*◌, ◌^◌, ◌<◌, ◌≤◌, Bool, true, false, ℤ, pos, negsuc, ◌+ℤ◌, ◌-ℤ◌, ◌*ℤ◌, neg_ℤ, ◌<ℤ◌, ◌≢◌, int_le, unsigned_abs, refl}
+use Rattle.std.specs.Prelude.{◌≡◌, ℕ, zero, suc, ◌*◌, ◌^◌, ◌<◌, ◌≤◌, Bool, true, false, ℤ, pos, negsuc, ◌+ℤ◌, ◌-ℤ◌, ◌*ℤ◌, neg_ℤ, ◌<ℤ◌, ◌≢◌, unsigned_abs, refl}
 use Rattle.std.proofs.Common.{sym, ap, ◌∙◌, subst, subst₂, arith, mod-lt}
-use Rattle.std.proofs.Math.IntN.{+ℤ_comm, *ℤ-zero, zero-*ℤ}
+use Rattle.std.proofs.Math.IntN.{+ℤ_comm}
 use Rattle.std.proofs.lemmas.Int.{ints}
 use Rattle.rule.specs.Kind.{sign_by, summed}
 use Rattle.rule.specs.Divisor.{Divides, Greatest, divisor}
@@ -9,7 +9,7 @@ use Rattle.rule.specs.Pairs.{order_of, start_of}
 use Rattle.rule.specs.Rule.{State, command_by, command, obeyed, next, after, told}
 use Rattle.rule.specs.Whole.{odd, half, fourfold, whole, Below}
 use Rattle.rule.specs.declared.pair.AdmittedPair.{AdmittedPair}
-use Rattle.rule.proofs.Ring.{out, lin, *ℤ-unit, *ℤ-neg, neg-*ℤ, neg-neg}
+use Rattle.rule.proofs.Ring.{out, lin, *ℤ-unit, *ℤ-neg, neg-neg}
 use Rattle.rule.proofs.Sizes.{abs-mul, factor_most, left_some, right_some, pow_some}
 use Rattle.rule.proofs.Parity.{odd_no, joins}
 use Rattle.rule.proofs.Fuel.{after_more}
@@ -33,7 +33,7 @@ record Exactly (w : ℕ) (r : Row ℕ) (a b z : ℤ) : Type 0 where
   kept : Kept w r
 
 exactly_exchanged : (w : ℕ) (r : Row ℕ) (a b z : ℤ) → Exactly w r a b z → Exactly w (columns_exchanged true r) b a z
-exactly_exchanged w r a b z h = grind (arith, ints)
+exactly_exchanged w r a b z h = grind arith
 
 -- b is twice k
 exactly_doubled : (w : ℕ) (r : Row ℕ) (a b z k : ℤ) → b ≡ k +ℤ k → Exactly w r a b z → Exactly w (column_doubled w r) a k z
@@ -44,7 +44,7 @@ exactly_doubled w r a b z k e h =
       value = ident h.i h.j ∙ h.value;
       left = h.left;
       right = sum_same h.right h.right;
-      kept = (h.kept.0, mod-lt _ (omega (arith, h.kept.0)));
+      kept = (h.kept.0, mod-lt _ (omega arith));
     }
   where
     ident : (i j : ℤ) → i *ℤ a +ℤ (j +ℤ j) *ℤ k ≡ i *ℤ a +ℤ j *ℤ b
@@ -53,12 +53,12 @@ exactly_doubled w r a b z k e h =
 -- m is half of a + b or of a - b
 exactly_combined : (w : ℕ) (r : Row ℕ) (a b z m : ℤ) (q : Bool) → m +ℤ m ≡ summed whole (sign_by q) a b → Exactly w r a b z → Exactly w (columns_combined w (sign_by q) r) a m z
 exactly_combined w r a b z m true e h =
-    let p : 0 < w = omega (arith, h.kept.0) in
+    let p : 0 < w = omega arith in
     record {
       i = h.i -ℤ h.j;
       j = h.j +ℤ h.j;
       value = ident h.i h.j ∙ h.value;
-      left = difference_same (omega (arith, h.kept.1)) h.left h.right;
+      left = difference_same (omega arith) h.left h.right;
       right = sum_same h.right h.right;
       kept = (mod-lt _ p, mod-lt _ p);
     }
@@ -66,14 +66,14 @@ exactly_combined w r a b z m true e h =
     ident : (i j : ℤ) → (i -ℤ j) *ℤ a +ℤ (j +ℤ j) *ℤ m ≡ i *ℤ a +ℤ j *ℤ b
     ident i j = let f : b ≡ m +ℤ m -ℤ a = omega (arith, ints) in simp (f, out) (omega (arith, lin))
 exactly_combined w r a b z m false e h =
-    let p : 0 < w = omega (arith, h.kept.0) in
+    let p : 0 < w = omega arith in
     let l : sum_in w r.right r.right < w = mod-lt _ p in
     record {
       i = h.i +ℤ h.j;
       j = pos 0 -ℤ (h.j +ℤ h.j);
       value = ident h.i h.j ∙ h.value;
       left = sum_same h.left h.right;
-      right = difference_same (omega (arith, l)) (same_refl (pos w) (pos 0)) (sum_same h.right h.right);
+      right = difference_same (omega arith) (same_refl (pos w) (pos 0)) (sum_same h.right h.right);
       kept = (mod-lt _ p, mod-lt _ p);
     }
   where
@@ -81,7 +81,7 @@ exactly_combined w r a b z m false e h =
     ident i j =
         let f : b ≡ a -ℤ (m +ℤ m) = omega (arith, ints) in
         let g : pos 0 -ℤ (j +ℤ j) ≡ neg_ℤ (j +ℤ j) = omega (arith, ints) in
-        simp (g, f, out) (omega (arith, lin))
+        simp (f, out) (omega (arith, lin))
 
 -- ---- along the run
 record Tracks (w : ℕ) (r : Row ℕ) (s : State ℤ) (z : ℤ) : Type 0 where
@@ -119,7 +119,7 @@ tracks_by w r s z true true o true e f g h =
 
 tracks_next : (w : ℕ) (r : Row ℕ) (s : State ℤ) (z : ℤ) → Tracks w r s z → Tracks w (row_after w (command whole s) r) (next whole s) z
 unfolding next command
-tracks_next w r s z h = grind (arith, ints, tracks_by)
+tracks_next w r s z h = grind (arith, tracks_by)
 
 -- ---- the table
 record RowsTrack (p : AdmittedPair) (t : FractionRows) (s : State ℤ) : Type 0 where
@@ -140,7 +140,7 @@ track_start p =
     }
 
 track_next : (p : AdmittedPair) (t : FractionRows) (s : State ℤ) → RowsTrack p t s → RowsTrack p (rows_after (command whole s) t) (next whole s)
-track_next p t s h = grind (arith, ints, tracks_next)
+track_next p t s h = grind (arith, tracks_next)
 
 -- the table after k commands of the run
 abbrev fractions_at : AdmittedPair → ℕ → FractionRows
@@ -158,7 +158,7 @@ tracks_related w r s z h =
     record { bare = h.bare; whole = h.whole; same = subst (Same (pos w) (pos r.left *ℤ s.a +ℤ pos r.right *ℤ s.b)) x.value (same_add (same-mul s.a x.left) (same-mul s.b x.right)) }
 
 track_related : (p : AdmittedPair) (t : FractionRows) (s : State ℤ) → RowsTrack p t s → FractionRowsRelated p t s
-track_related p t s h = grind (arith, ints, tracks_related)
+track_related p t s h = grind (arith, tracks_related)
 
 pub tables_follow : Follows first_table (λ t c. true) (λ t c. rows_after c t) FractionRowsRelated
 tables_follow p k _ = record { related = track_related p _ _ (track p k); takes = λ _. refl }
@@ -172,11 +172,11 @@ record Ended (n : ℕ) (r : Row ℕ) (s : State ℤ) (z : ℤ) : Type 0 where
   whole : s.a *ℤ pos (2 ^ s.twos) *ℤ i ≡ z
 
 dropped : (i j a b y : ℤ) → b ≡ pos 0 → i *ℤ a +ℤ j *ℤ b ≡ y → i *ℤ a ≡ y
-dropped i j a b y e g = grind (arith, ints)
+dropped i j a b y e g = grind arith
 
 -- a is not 0 at the end of a run that had a b other than 0
 ended_some : (w : ℕ) (r : Row ℕ) (s : State ℤ) (z : ℤ) → (z ≢ pos 0) → s.b ≡ pos 0 → Tracks w r s z → s.a ≢ pos 0
-ended_some w r s z some b h = grind (arith, ints)
+ended_some w r s z some b h = grind arith
 
 ended : (n : ℕ) (r : Row ℕ) (s : State ℤ) (z : ℤ) → unsigned_abs z < 2 ^ n → (s.a ≢ pos 0) → s.b ≡ pos 0 → Tracks (modulus n) r s z → Ended n r s z
 ended n r s z l some b h =
@@ -184,7 +184,7 @@ ended n r s z l some b h =
     let e = dropped x.i x.j s.a s.b h.bare b x.value in
     let u = factor_most x.i s.a h.bare e some in
     let v = factor_most h.bare (pos (2 ^ s.twos)) z h.whole (pow_some s.twos) in
-    let small : unsigned_abs x.i < 2 ^ n = omega (arith, u, v, l) in
+    let small : unsigned_abs x.i < 2 ^ n = omega arith in
     record { i = x.i; reads = read_is n r.left x.i x.kept.0 small x.left; small = small; whole = scaled x.i s.a (pos (2 ^ s.twos)) h.bare z e h.whole }
   where
     scaled : (i a t y z : ℤ) → i *ℤ a ≡ y → y *ℤ t ≡ z → a *ℤ t *ℤ i ≡ z
@@ -206,18 +206,18 @@ divides_scaled (negsuc g) i x d e h = record { quotient = neg_ℤ h.quotient; ex
 
 -- g·d is no larger than g, and d divides j, which is not 0
 only_one : (g d : ℕ) (j : ℤ) → 0 < g → g * d ≤ g → (j ≢ pos 0) → Divides (pos d) j → d ≡ 1
-only_one g d j l m some h = grind (arith, ints)
+only_one g d j l m some h = grind arith
 
 -- ---- both negated or neither
 negated_crossed : (b : Bool) (i j x y : ℤ) → i *ℤ y ≡ j *ℤ x → negated_by b i *ℤ y ≡ negated_by b j *ℤ x
-negated_crossed b i j x y e = grind (arith, ints)
+negated_crossed b i j x y e = grind arith
 
 negated_divides : (b : Bool) (d i : ℤ) → Divides d (negated_by b i) → Divides d i
 negated_divides false d i h = h
 negated_divides true d i h = record { quotient = neg_ℤ h.quotient; exact = sym (neg-neg i) ∙ ap neg_ℤ h.exact ∙ sym (*ℤ-neg d h.quotient) }
 
 negated_above : (b : Bool) (j : ℤ) → is_negative j ≡ b → (j ≢ pos 0) → pos 0 <ℤ negated_by b j
-negated_above b j e some = grind (arith, ints)
+negated_above b j e some = grind arith
 
 -- ---- the read-out
 lowest : (x y i j : ℤ) (s : State ℤ) (b : Bool) → is_negative j ≡ b → (y ≢ pos 0) → s.a *ℤ pos (2 ^ s.twos) *ℤ i ≡ x → s.a *ℤ pos (2 ^ s.twos) *ℤ j ≡ y
@@ -234,7 +234,7 @@ lowest x y i j s b f some e e' g =
           let u' = negated_divides b (pos d) i u in
           let v' = negated_divides b (pos d) j v in
           let m = g.greatest (unsigned_abs k * d) (divides_scaled k i x d e u') (divides_scaled k j y d e' v') in
-          only_one (unsigned_abs k) d j (size_some k k-some) (omega (arith, m, size)) j-some v';
+          only_one (unsigned_abs k) d j (size_some k k-some) (omega arith) j-some v';
     }
   where
     size_some : (k : ℤ) → (k ≢ pos 0) → 0 < unsigned_abs k
@@ -260,8 +260,8 @@ reads_reduced p t s b g h =
         let de : negated_by (is_negative j) j ≡ denominator_of t = rw (h.order, f) in
         record {
           reduced = subst₂ (Reduced p.a p.b) nu de r;
-          numerator = subst (Below (order_of p)) nu (omega (arith, l, negated_size (is_negative j) i));
-          denominator = subst (Below (order_of p)) de (omega (arith, m, negated_size (is_negative j) j));
+          numerator = subst (Below (order_of p)) nu (omega (arith, negated_size (is_negative j) i));
+          denominator = subst (Below (order_of p)) de (omega (arith, negated_size (is_negative j) j));
         }
 
 pub fraction_reduced : FractionIsReduced

@@ -1,5 +1,5 @@
 -- Turning the sign of a number keeps its size.
-use Rattle.std.specs.Prelude.{◌≡◌, Bool, true, false, ℤ, unsigned_abs, refl}
+use Rattle.std.specs.Prelude.{◌≡◌, Bool, ℤ, unsigned_abs}
 use Rattle.std.proofs.Common.{arith}
 use Rattle.std.proofs.lemmas.Int.{ints}
 use Rattle.follower.specs.Signs.{negated_by}

@@ -1,6 +1,6 @@
 -- The cofactor follower takes every command of the run of its pair, and stays in its relation.
-use Rattle.std.specs.Prelude.{◌≡◌, ℕ, zero, suc, ◌+◌, ◌*◌, ◌^◌, ◌≤◌, Bool, true, false, not, ◌&&◌, ◌||◌, ◌⊎◌, ℤ, pos, ◌+ℤ◌, ◌-ℤ◌, ◌*ℤ◌, neg_ℤ, Some, ◌≢◌, int_le, int_lt, unsigned_abs, refl}
-use Rattle.std.proofs.Common.{sym, ap, ap₂, ◌∙◌, subst₂, inl, inr, arith, pow-add, pow_pos}
+use Rattle.std.specs.Prelude.{◌≡◌, ℕ, zero, suc, ◌+◌, ◌*◌, ◌^◌, ◌≤◌, Bool, true, false, not, ◌&&◌, ◌||◌, ◌⊎◌, ℤ, pos, ◌+ℤ◌, ◌-ℤ◌, ◌*ℤ◌, Some, int_le, unsigned_abs, refl}
+use Rattle.std.proofs.Common.{sym, ap, ◌∙◌, subst₂, inl, inr, arith, pow-add, pow_pos}
 use Rattle.std.proofs.Math.IntN.{+ℤ_comm}
 use Rattle.std.proofs.lemmas.Int.{ints}
 use Rattle.std.proofs.lemmas.Bool.{both_ways, or_parts, or_left, or_right, and_from}
@@ -12,7 +12,7 @@ use Rattle.rule.specs.declared.command.Sign.{Sign}
 use Rattle.rule.specs.declared.command.Sign.TheVariants.{Plus, Minus}
 use Rattle.rule.specs.declared.command.Command.{Command}
 use Rattle.rule.specs.declared.pair.AdmittedPair.{AdmittedPair}
-use Rattle.rule.proofs.Ring.{out, lin, *ℤ-unit}
+use Rattle.rule.proofs.Ring.{out, lin}
 use Rattle.rule.proofs.Parity.{odd_no, odd_double, Joins, joins, xor, parity}
 use Rattle.rule.proofs.Fuel.{after_more}
 use Rattle.follower.specs.Following.{turned, table_at, Follows}
@@ -41,7 +41,7 @@ values_halved u z w r h p q e =
     ident e f i j x y p q r = omega (arith, lin, simp (p, q, out) at r)
 
 values_swapped : (u z : ℤ) (r : CofactorRows) → Values u z r → Values z u (swapped true r)
-values_swapped u z r h = grind (arith, ints)
+values_swapped u z r h = grind arith
 
 values_combined : (u v : ℤ) (r : CofactorRows) (g : Sign) → Values u v r → Values u (summed whole g u v) (combined g r)
 values_combined u v r g h = record { first = h.first; second = ident g r.c r.d r.e r.f r.x r.y h.first h.second }
@@ -63,7 +63,7 @@ corrected_even r false e h k = or_parts (odd r.e) (odd r.f) e
 corrected_even r true e h k = simp parity (evens (odd r.e) (odd r.f) (odd r.x) (odd r.y) h k e)
 
 corrected_size : (E F : ℕ) (r : CofactorRows) (o : Bool) → unsigned_abs r.e ≤ E → unsigned_abs r.f ≤ F → (unsigned_abs (corrected o r).e ≤ E + unsigned_abs r.y) × (unsigned_abs (corrected o r).f ≤ F + unsigned_abs r.x)
-corrected_size E F r o i j = grind (arith, ints)
+corrected_size E F r o i j = grind arith
 
 half_size : (z : ℤ) (H : ℕ) → odd z ≡ false → unsigned_abs z ≤ H → 2 * unsigned_abs (half z) ≤ H
 half_size z H e h = omega (arith, ints, odd_no z e)
@@ -89,7 +89,7 @@ halving E F u z w r h e o k l =
     }
 
 summed_size : (g : Sign) (x y : ℤ) (H : ℕ) → 2 * unsigned_abs x ≤ H → 2 * unsigned_abs y ≤ H → unsigned_abs (summed whole g x y) ≤ H
-summed_size g x y H h k = grind (arith, ints)
+summed_size g x y H h k = grind arith
 
 -- plus or minus of rows whose values are odd
 joining : (E F : ℕ) (u v w : ℤ) (r : CofactorRows) (q : Bool) → Joins u v w q → Values u v r → (odd r.x || odd r.y) ≡ true
@@ -100,10 +100,10 @@ joining E F u v w r q j h o kc kd ke kf =
     (summed_size (sign_by q) r.c r.e _ kc ke) (summed_size (sign_by q) r.d r.f _ kd kf)
 
 in_range_lem : (n : ℕ) (z : ℤ) → unsigned_abs z ≤ 2 * 2 ^ n → in_range n z ≡ true
-in_range_lem n z h = grind (arith, ints, pow-add, pow_pos, and_from)
+in_range_lem n z h = grind (arith, pow-add, pow_pos)
 
 row_fits_lem : (E F : ℕ) (u w : ℤ) (r : CofactorRows) → unsigned_abs r.x ≤ 2 ^ r.n → unsigned_abs r.y ≤ 2 ^ r.n → E ≤ 3 * 2 ^ r.n → F ≤ 3 * 2 ^ r.n → Halving E F u w r → row_fits (evened r) ≡ true
-row_fits_lem E F u w r i j k l h = grind (arith, ints, in_range_lem, and_from)
+row_fits_lem E F u w r i j k l h = grind (arith, in_range_lem)
 
 -- ---- what the follower keeps
 -- before any command but B: the rows are 1, 0 and 0, 1, and the pair is where the rule stands
@@ -140,16 +140,16 @@ pub record Kept (p : AdmittedPair) (s : State ℤ) (r : CofactorRows) : Type 0 w
 
 -- while any command but B comes, x or y is odd
 some_odd : (s : State ℤ) (r : CofactorRows) → (odd s.a || odd s.b) ≡ true → Phase s r → (odd r.x || odd r.y) ≡ true
-some_odd s r o h = grind (arith, ints)
+some_odd s r o h = grind arith
 
 fresh : (s : State ℤ) (r : CofactorRows) → odd s.a ≡ false → Phase s r → Fresh s r
-fresh s r e h = grind (arith, ints)
+fresh s r e h = grind arith
 
 row_one : (c d x y u : ℤ) → c ≡ pos 1 → d ≡ pos 0 → x ≡ u → c *ℤ x +ℤ d *ℤ y ≡ u
-row_one c d x y u p q r = grind (arith, ints)
+row_one c d x y u p q r = grind arith
 
 row_two : (e f x y v : ℤ) → e ≡ pos 0 → f ≡ pos 1 → y ≡ v → e *ℤ x +ℤ f *ℤ y ≡ v
-row_two e f x y v p q r = grind (arith, ints)
+row_two e f x y v p q r = grind arith
 
 abbrev Goes : AdmittedPair → Command → State ℤ → CofactorRows → Type 0
 Goes p k s r = (rows_take r k ≡ true) × Kept p (obeyed whole k s) (rows_turn r k)
@@ -161,15 +161,15 @@ settles : (p : AdmittedPair) (t : State ℤ) (r : CofactorRows) (E F : ℕ) → 
     → odd t.a ≡ true → (odd r.x || odd r.y) ≡ true
     → (row_fits (evened r) ≡ true) × Kept p t (halved_row (evened r))
 settles p t r E F g w le lf c d tight a o = (
-  row_fits_lem E F _ _ r g.size_x g.size_y (omega (arith, le, g.size_y)) lf w,
+  row_fits_lem E F _ _ r g.size_x g.size_y (omega arith) lf w,
   record {
     ground = g;
     values = w.values;
     size_c = c;
     size_d = d;
-    size_e = omega (arith, w.size_e, le);
-    size_f = omega (arith, w.size_f, lf, g.size_x);
-    tight = λ k. let l = tight k in (omega (arith, w.size_e, l.0), omega (arith, w.size_f, l.1, g.size_x));
+    size_e = omega arith;
+    size_f = omega arith;
+    tight = λ k. let l = tight k in (omega arith, omega arith);
     phase = inl (a, o);
   },
 )
@@ -181,7 +181,7 @@ goes_by p s r false false q z a b g h =
     let even-y = odd_no r.y (ap odd w.is_y ∙ b) in
     let i : half r.x ≡ half s.a = ap half w.is_x in
     let j : half r.y ≡ half s.b = ap half w.is_y in
-    let some_y : 1 ≤ unsigned_abs (half r.y) = omega (arith, ints, h.ground.some_y) in
+    let some_y : 1 ≤ unsigned_abs (half r.y) = omega (arith, ints) in
     let one : unsigned_abs r.c ≡ 1 = ap unsigned_abs w.is_c in
     let none : unsigned_abs r.e ≡ 0 = ap unsigned_abs w.is_e in (
       and_from _ _ (ap (λ x. not (odd x)) w.is_x ∙ ap not a) (ap (λ x. not (odd x)) w.is_y ∙ ap not b),
@@ -192,8 +192,8 @@ goes_by p s r false false q z a b g h =
               of_a = half_scaled r.x (half r.x) s.twos p.a even-x h.ground.of_a;
               of_b = half_scaled r.y (half r.y) s.twos p.b even-y h.ground.of_b;
               some_y = some_y;
-              size_x = omega (arith, ints, even-x, h.ground.size_x);
-              size_y = omega (arith, ints, even-y, h.ground.size_y);
+              size_x = omega (arith, ints);
+              size_y = omega (arith, ints);
             };
         values = record { first = row_one _ _ _ _ _ w.is_c w.is_d i; second = row_two _ _ _ _ _ w.is_e w.is_f j };
         size_c = omega arith;
@@ -207,7 +207,7 @@ goes_by p s r false false q z a b g h =
 goes_by p s r false true q z a b g h =
     let o = some_odd s r (or_right _ _ b) h.phase in
     let i = h.tight b in
-    let w = halving (2 * unsigned_abs r.y) (2 * 2 ^ r.n) s.b s.a (half s.a) (swapped true r) (values_swapped _ _ r h.values) (odd_no s.a a) o (omega (arith, h.size_c)) (omega (arith, h.size_d)) in
+    let w = halving (2 * unsigned_abs r.y) (2 * 2 ^ r.n) s.b s.a (half s.a) (swapped true r) (values_swapped _ _ r h.values) (odd_no s.a a) o (omega arith) (omega arith) in
     settles p _ (swapped true r) _ _ h.ground w (omega arith) (omega arith) i.0 i.1 (λ _. (omega arith, omega arith)) b o
 goes_by p s r true false q z a b g h =
     let o = some_odd s r (or_left _ _ a) h.phase in
@@ -231,7 +231,7 @@ unfolding command
 goes p s r h = goes_by p s r (odd s.a) (odd s.b) (fourfold (s.a +ℤ s.b)) (int_le (pos 0) s.δ) refl refl refl h
 
 kept_start : (p : AdmittedPair) → Kept p (start_of p) (first_rows p)
-kept_start p = grind (arith, ints)
+kept_start p = grind arith
 
 -- the rows after k commands of the run
 abbrev pub rows_at : AdmittedPair → ℕ → CofactorRows

@@ -1,3 +1,3 @@
 pub mod Readout
-pub mod Within
 pub mod Marked
+pub mod Within

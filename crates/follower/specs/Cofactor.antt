@@ -1,5 +1,5 @@
 -- The cofactor follower: its table, what it takes, its next table and its relation.
-use Rattle.std.specs.Prelude.{◌≡◌, ℕ, ◌+◌, ◌^◌, Bool, true, false, cond, not, ◌&&◌, ◌||◌, ℤ, pos, ◌+ℤ◌, ◌-ℤ◌, ◌*ℤ◌, neg_ℤ, Some, None, Option, int_le, int_lt}
+use Rattle.std.specs.Prelude.{◌≡◌, ℕ, ◌+◌, ◌^◌, Bool, true, false, cond, not, ◌&&◌, ◌||◌, ℤ, pos, ◌+ℤ◌, ◌-ℤ◌, ◌*ℤ◌, neg_ℤ, Option, int_le, int_lt}
 use Rattle.rule.specs.Kind.{summed}
 use Rattle.rule.specs.Pairs.{order_of}
 use Rattle.rule.specs.Rule.{State}
@@ -8,6 +8,7 @@ use Rattle.rule.specs.declared.command.Sign.{Sign}
 use Rattle.rule.specs.declared.command.Command.{Command}
 use Rattle.rule.specs.declared.command.Command.TheVariants.{Both, Cross, Shift, PlusMinus}
 use Rattle.rule.specs.declared.pair.AdmittedPair.{AdmittedPair}
+use Rattle.follower.specs.Following.{begun_first, begun_accepts, begun_turns, BegunRelated}
 
 -- The first row c, d and the second row e, f; the order n; and x, y, the pair without the twos told so far.
 pub record CofactorRows : Type 0 where
@@ -86,16 +87,13 @@ pub record CofactorRowsRelated (p : AdmittedPair) (r : CofactorRows) (s : State 
 
 -- The same of a follower, which holds no rows before it is begun.
 abbrev pub cofactor_first : AdmittedPair → Option CofactorRows
-cofactor_first p = Some (first_rows p)
+cofactor_first = begun_first first_rows
 
 abbrev pub cofactor_accepts : Option CofactorRows → Command → Bool
-cofactor_accepts None c = false
-cofactor_accepts (Some r) c = rows_take r c
+cofactor_accepts = begun_accepts rows_take
 
 abbrev pub cofactor_turns : Option CofactorRows → Command → Option CofactorRows
-cofactor_turns None c = None
-cofactor_turns (Some r) c = Some (rows_turn r c)
+cofactor_turns = begun_turns rows_turn
 
 abbrev pub CofactorRelated : AdmittedPair → Option CofactorRows → State ℤ → Type 0
-CofactorRelated p None s = ⊥
-CofactorRelated p (Some r) s = CofactorRowsRelated p r s
+CofactorRelated = BegunRelated CofactorRowsRelated

@@ -1,20 +1,18 @@
 -- What the cofactor follower holds.
-use Rattle.std.specs.Prelude.{◌≡◌, true, false, Some, None, Option}
-use Rattle.rule.specs.declared.command.Command.{Command}
-use Rattle.follower.specs.Cofactor.{CofactorRows, rows_take, rows_turn}
-use Rattle.follower.specs.Entries.{rows_of}
-use Rattle.follower.specs.declared.cofactor.Begun.{Begun}
-use Rattle.follower.specs.declared.cofactor.Cofactor.{Cofactor}
+use Rattle.std.specs.Prelude.{Option}
+use Rattle.std.specs.Option.{option_map}
+use Rattle.follower.specs.Cofactor.{CofactorRows}
+use Rattle.follower.specs.declared.entries.Entries.{Entries}
+use Rattle.follower.specs.declared.table.TableFollower.{TableFollower}
 
-abbrev table_of : Option Begun → Option CofactorRows
-table_of None = None
-table_of (Some b) = Some (rows_of b.entries)
+-- The rows that the entries are.
+abbrev pub rows_of : Entries → CofactorRows
+rows_of t = record { n = t.order.value; x = t.pair.left; y = t.pair.right; c = t.first.left; d = t.first.right; e = t.second.left; f = t.second.right }
+
+-- The cofactor follower.
+abbrev pub CofactorFollower : Type 0
+CofactorFollower = TableFollower Entries
 
 -- None before begin.
-abbrev pub cofactor_table : Cofactor → Option CofactorRows
-cofactor_table f = table_of f.begun
-
--- The rows after a command that is taken, and nothing after any other.
-abbrev pub Turned : CofactorRows → Command → Option Begun → Type 0
-Turned r c None = rows_take r c ≡ false
-Turned r c (Some b) = (rows_take r c ≡ true) × (rows_of b.entries ≡ rows_turn r c)
+abbrev pub cofactor_table : CofactorFollower → Option CofactorRows
+cofactor_table f = option_map rows_of f.table

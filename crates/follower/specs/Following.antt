@@ -1,5 +1,5 @@
 -- What the calls of a follower do to its table, and what every follower has to show.
-use Rattle.std.specs.Prelude.{◌≡◌, ℕ, Bool, true, false, List, [], ◌∷◌, ℤ, Ok, Err, Result}
+use Rattle.std.specs.Prelude.{◌≡◌, ℕ, Bool, true, false, List, [], ◌∷◌, ℤ, Ok, Err, Some, None, Option, Result}
 use Rattle.rule.specs.Pairs.{start_of}
 use Rattle.rule.specs.Refusal.{fault}
 use Rattle.rule.specs.Rule.{State, command, after, told, Running}
@@ -32,3 +32,24 @@ pub record FollowsTo {T : Type 0} (first : AdmittedPair → T) (accepts : T → 
 -- This holds all along the run of every admitted pair.
 abbrev pub Follows : {T : Type 0} → (AdmittedPair → T) → (T → Command → Bool) → (T → Command → T) → (AdmittedPair → T → State ℤ → Type 0) → Type 0
 Follows first accepts turns relation = (p : AdmittedPair) (k : ℕ) → Running whole (start_of p) k → FollowsTo first accepts turns relation p k
+
+-- A table that means t if the test holds, and nothing if it does not.
+abbrev pub Settled : {S T : Type 0} → (S → T) → Bool → T → Option S → Type 0
+Settled rows test t None = test ≡ false
+Settled rows test t (Some s) = (test ≡ true) × (rows s ≡ t)
+
+-- The same of a follower that holds no table before it is begun, and takes no command then.
+abbrev pub begun_first : {T : Type 0} → (AdmittedPair → T) → AdmittedPair → Option T
+begun_first first p = Some (first p)
+
+abbrev pub begun_accepts : {T : Type 0} → (T → Command → Bool) → Option T → Command → Bool
+begun_accepts accepts None c = false
+begun_accepts accepts (Some t) c = accepts t c
+
+abbrev pub begun_turns : {T : Type 0} → (T → Command → T) → Option T → Command → Option T
+begun_turns turns None c = None
+begun_turns turns (Some t) c = Some (turns t c)
+
+abbrev pub BegunRelated : {T : Type 0} → (AdmittedPair → T → State ℤ → Type 0) → AdmittedPair → Option T → State ℤ → Type 0
+BegunRelated relation p None s = ⊥
+BegunRelated relation p (Some t) s = relation p t s

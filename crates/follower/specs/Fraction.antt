@@ -9,7 +9,7 @@ use Rattle.rule.specs.declared.command.Command.TheVariants.{Both, Cross, Shift, 
 use Rattle.rule.specs.declared.command.Sign.{Sign}
 use Rattle.rule.specs.declared.command.Sign.TheVariants.{Plus, Minus}
 use Rattle.rule.specs.declared.pair.AdmittedPair.{AdmittedPair}
-use Rattle.follower.specs.Following.{table_at}
+use Rattle.follower.specs.Following.{table_at, begun_first, begun_accepts, begun_turns, BegunRelated}
 use Rattle.follower.specs.Signs.{is_negative, negated_by}
 use Rattle.follower.specs.declared.row.Row.{Row}
 
@@ -26,25 +26,25 @@ abbrev pub difference_in : ℕ → ℕ → ℕ → ℕ
 difference_in w x y = (x + (w - y)) % w
 
 -- A row by its two entries.
-abbrev pub row : ℕ → ℕ → Row
+abbrev pub row : ℕ → ℕ → Row ℕ
 row x y = record { left = x; right = y }
 
 -- The columns change places where the mark is set.
-abbrev pub columns_exchanged : Bool → Row → Row
+abbrev pub columns_exchanged : Bool → Row ℕ → Row ℕ
 columns_exchanged false r = r
 columns_exchanged true r = row r.right r.left
 
 -- The second column is doubled.
-abbrev pub column_doubled : ℕ → Row → Row
+abbrev pub column_doubled : ℕ → Row ℕ → Row ℕ
 column_doubled w r = row r.left (sum_in w r.right r.right)
 
 -- Plus takes the second column from the first and doubles the second; minus adds it, and the second becomes minus its double.
-abbrev pub columns_combined : ℕ → Sign → Row → Row
+abbrev pub columns_combined : ℕ → Sign → Row ℕ → Row ℕ
 columns_combined w Plus r = row (difference_in w r.left r.right) (sum_in w r.right r.right)
 columns_combined w Minus r = row (sum_in w r.left r.right) (difference_in w 0 (sum_in w r.right r.right))
 
 -- What a command does to a row, modulo w.
-abbrev pub row_after : ℕ → Command → Row → Row
+abbrev pub row_after : ℕ → Command → Row ℕ → Row ℕ
 row_after w Both r = r
 row_after w Cross r = column_doubled w (columns_exchanged true r)
 row_after w Shift r = column_doubled w r
@@ -53,30 +53,30 @@ row_after w (PlusMinus g x) r = columns_combined w g (columns_exchanged x r)
 -- The table of a pair of order n: the first row, c and d, and the second row, e and f.
 pub record FractionRows : Type 0 where
   pub order : ℕ
-  pub first : Row
-  pub second : Row
+  pub first : Row ℕ
+  pub second : Row ℕ
 
 -- The entries of a row are from 0 to w - 1.
-abbrev pub Kept : ℕ → Row → Type 0
+abbrev pub Kept : ℕ → Row ℕ → Type 0
 Kept w r = (r.left < w) × (r.right < w)
 
 -- A command does the same to both rows.
 abbrev pub rows_after : Command → FractionRows → FractionRows
 rows_after c t = record { order = t.order; first = row_after (modulus t.order) c t.first; second = row_after (modulus t.order) c t.second }
 
--- It begins with the rows 1, 0 and 0, 1; None is the table of a follower that was not begun.
+-- It begins with the rows 1, 0 and 0, 1.
+abbrev pub first_table : AdmittedPair → FractionRows
+first_table p = record { order = order_of p; first = row 1 0; second = row 0 1 }
+
+-- A follower holds no table before it is begun, and takes every command from then on.
 abbrev pub fraction_first : AdmittedPair → Option FractionRows
-fraction_first p = Some (record { order = order_of p; first = row 1 0; second = row 0 1 })
+fraction_first = begun_first first_table
 
--- Once begun it takes every command.
 abbrev pub fraction_accepts : Option FractionRows → Command → Bool
-fraction_accepts None c = false
-fraction_accepts (Some t) c = true
+fraction_accepts = begun_accepts (λ t c. true)
 
--- The table after a command; there is none without a begin.
 abbrev pub fraction_turns : Option FractionRows → Command → Option FractionRows
-fraction_turns None c = None
-fraction_turns (Some t) c = Some (rows_after c t)
+fraction_turns = begun_turns (λ t c. rows_after c t)
 
 -- u and v are equal modulo w.
 pub record Same (w u v : ℤ) : Type 0 where
@@ -84,7 +84,7 @@ pub record Same (w u v : ℤ) : Type 0 where
   pub is : u ≡ v +ℤ w *ℤ times
 
 -- Modulo w, left·a + right·b is z without the twos counted so far.
-pub record RowRelated (w : ℕ) (r : Row) (s : State ℤ) (z : ℤ) : Type 0 where
+pub record RowRelated (w : ℕ) (r : Row ℕ) (s : State ℤ) (z : ℤ) : Type 0 where
   pub bare : ℤ
   pub whole : bare *ℤ pos (2 ^ s.twos) ≡ z
   pub same : Same (pos w) (pos r.left *ℤ s.a +ℤ pos r.right *ℤ s.b) bare
@@ -97,8 +97,7 @@ pub record FractionRowsRelated (p : AdmittedPair) (t : FractionRows) (s : State 
 
 -- The same of a follower, which holds no table before it is begun.
 abbrev pub FractionRelated : AdmittedPair → Option FractionRows → State ℤ → Type 0
-FractionRelated p None s = ⊥
-FractionRelated p (Some t) s = FractionRowsRelated p t s
+FractionRelated = BegunRelated FractionRowsRelated
 
 -- An entry, read as a signed number of n + 2 bits.
 abbrev pub read_signed : ℕ → ℕ → ℤ

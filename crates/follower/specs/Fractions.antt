@@ -1,31 +1,30 @@
 -- Why the fraction follower stays in its relation, and why its first column ends as the fraction in lowest terms.
-use Rattle.std.specs.Prelude.{◌≡◌, ℕ, zero, suc, ◌*◌, ◌^◌, ◌<◌, ◌≤◌, Bool, true, false, ℤ, pos, negsuc, ◌+ℤ◌, ◌-ℤ◌, ◌*ℤ◌, neg_ℤ, ◌<ℤ◌, Some, None, Option, ◌≢◌, int_le, int_lt, unsigned_abs, refl}
-use Rattle.std.proofs.Common.{sym, ap, ap₂, ◌∙◌, subst, subst₂, arith, mod-lt}
-use Rattle.std.proofs.Math.IntN.{+ℤ_comm, *ℤ-zero, zero-*ℤ, neg_ℤ-neg_ℤ}
-use Rattle.std.proofs.lemmas.Int.{ints, unsigned_abs-mul}
+use Rattle.std.specs.Prelude.{◌≡◌, ℕ, zero, suc, ◌*◌, ◌^◌, ◌<◌, ◌≤◌, Bool, true, false, ℤ, pos, negsuc, ◌+ℤ◌, ◌-ℤ◌, ◌*ℤ◌, neg_ℤ, ◌<ℤ◌, ◌≢◌, unsigned_abs, refl}
+use Rattle.std.proofs.Common.{sym, ap, ◌∙◌, subst, subst₂, arith, mod-lt}
+use Rattle.std.proofs.Math.IntN.{+ℤ_comm}
+use Rattle.std.proofs.lemmas.Int.{ints}
 use Rattle.rule.specs.Kind.{sign_by, summed}
 use Rattle.rule.specs.Divisor.{Divides, Greatest, divisor}
 use Rattle.rule.specs.Pairs.{order_of, start_of}
 use Rattle.rule.specs.Rule.{State, command_by, command, obeyed, next, after, told}
 use Rattle.rule.specs.Whole.{odd, half, fourfold, whole, Below}
-use Rattle.rule.specs.declared.command.Command.{Command}
 use Rattle.rule.specs.declared.pair.AdmittedPair.{AdmittedPair}
-use Rattle.rule.proofs.Ring.{out, lin, *ℤ-unit, *ℤ-neg, neg-*ℤ}
-use Rattle.rule.proofs.Sizes.{factor_most, left_some, right_some, pow_some}
+use Rattle.rule.proofs.Ring.{out, lin, *ℤ-unit, *ℤ-neg, neg-neg}
+use Rattle.rule.proofs.Sizes.{abs-mul, factor_most, left_some, right_some, pow_some}
 use Rattle.rule.proofs.Parity.{odd_no, joins}
-use Rattle.rule.proofs.Fuel.{after_more, told_more}
+use Rattle.rule.proofs.Fuel.{after_more}
 use Rattle.rule.proofs.Whole.{zero_yes}
 use Rattle.rule.proofs.Divisor.{divisor_greatest}
 use Rattle.follower.specs.Following.{turned, table_at, Follows}
 use Rattle.follower.specs.Signs.{is_negative, negated_by}
 use Rattle.follower.specs.Negated.{negated_size}
-use Rattle.follower.specs.Fraction.{modulus, sum_in, columns_exchanged, column_doubled, columns_combined, row_after, FractionRows, Kept, fraction_first, fraction_accepts, fraction_turns, Same, RowRelated, FractionRelated, read_signed, numerator_of, denominator_of, Reduced, ReadsReduced, TableReduced, FractionIsReduced}
+use Rattle.follower.specs.Fraction.{modulus, sum_in, columns_exchanged, column_doubled, columns_combined, row_after, FractionRows, Kept, first_table, rows_after, Same, RowRelated, FractionRowsRelated, read_signed, numerator_of, denominator_of, Reduced, ReadsReduced, TableReduced, FractionIsReduced}
 use Rattle.follower.specs.declared.row.Row.{Row}
-use Rattle.follower.specs.FollowingLemmas.{turned_more}
+use Rattle.follower.specs.FollowingLemmas.{half_scaled, table_more, begun_table_at}
 use Rattle.follower.specs.Modulo.{same_refl, same_add, same-mul, sum_same, difference_same, modulus_many, read_is}
 
 -- ---- a row beside an exact one, whose entries i and j are not reduced: i·a + j·b is z over ℤ
-record Exactly (w : ℕ) (r : Row) (a b z : ℤ) : Type 0 where
+record Exactly (w : ℕ) (r : Row ℕ) (a b z : ℤ) : Type 0 where
   i : ℤ
   j : ℤ
   value : i *ℤ a +ℤ j *ℤ b ≡ z
@@ -33,12 +32,11 @@ record Exactly (w : ℕ) (r : Row) (a b z : ℤ) : Type 0 where
   right : Same (pos w) (pos r.right) j
   kept : Kept w r
 
-exactly_exchanged : (w : ℕ) (r : Row) (a b z : ℤ) → Exactly w r a b z → Exactly w (columns_exchanged true r) b a z
-exactly_exchanged w r a b z h =
-    record { i = h.j; j = h.i; value = +ℤ_comm (h.j *ℤ b) (h.i *ℤ a) ∙ h.value; left = h.right; right = h.left; kept = (h.kept.1, h.kept.0) }
+exactly_exchanged : (w : ℕ) (r : Row ℕ) (a b z : ℤ) → Exactly w r a b z → Exactly w (columns_exchanged true r) b a z
+exactly_exchanged w r a b z h = grind arith
 
 -- b is twice k
-exactly_doubled : (w : ℕ) (r : Row) (a b z k : ℤ) → b ≡ k +ℤ k → Exactly w r a b z → Exactly w (column_doubled w r) a k z
+exactly_doubled : (w : ℕ) (r : Row ℕ) (a b z k : ℤ) → b ≡ k +ℤ k → Exactly w r a b z → Exactly w (column_doubled w r) a k z
 exactly_doubled w r a b z k e h =
     record {
       i = h.i;
@@ -46,21 +44,21 @@ exactly_doubled w r a b z k e h =
       value = ident h.i h.j ∙ h.value;
       left = h.left;
       right = sum_same h.right h.right;
-      kept = (h.kept.0, mod-lt _ (omega (arith, h.kept.0)));
+      kept = (h.kept.0, mod-lt _ (omega arith));
     }
   where
     ident : (i j : ℤ) → i *ℤ a +ℤ (j +ℤ j) *ℤ k ≡ i *ℤ a +ℤ j *ℤ b
     ident i j = simp (e, out) (omega (arith, lin))
 
 -- m is half of a + b or of a - b
-exactly_combined : (w : ℕ) (r : Row) (a b z m : ℤ) (q : Bool) → m +ℤ m ≡ summed whole (sign_by q) a b → Exactly w r a b z → Exactly w (columns_combined w (sign_by q) r) a m z
+exactly_combined : (w : ℕ) (r : Row ℕ) (a b z m : ℤ) (q : Bool) → m +ℤ m ≡ summed whole (sign_by q) a b → Exactly w r a b z → Exactly w (columns_combined w (sign_by q) r) a m z
 exactly_combined w r a b z m true e h =
-    let p : 0 < w = omega (arith, h.kept.0) in
+    let p : 0 < w = omega arith in
     record {
       i = h.i -ℤ h.j;
       j = h.j +ℤ h.j;
       value = ident h.i h.j ∙ h.value;
-      left = difference_same (omega (arith, h.kept.1)) h.left h.right;
+      left = difference_same (omega arith) h.left h.right;
       right = sum_same h.right h.right;
       kept = (mod-lt _ p, mod-lt _ p);
     }
@@ -68,14 +66,14 @@ exactly_combined w r a b z m true e h =
     ident : (i j : ℤ) → (i -ℤ j) *ℤ a +ℤ (j +ℤ j) *ℤ m ≡ i *ℤ a +ℤ j *ℤ b
     ident i j = let f : b ≡ m +ℤ m -ℤ a = omega (arith, ints) in simp (f, out) (omega (arith, lin))
 exactly_combined w r a b z m false e h =
-    let p : 0 < w = omega (arith, h.kept.0) in
+    let p : 0 < w = omega arith in
     let l : sum_in w r.right r.right < w = mod-lt _ p in
     record {
       i = h.i +ℤ h.j;
       j = pos 0 -ℤ (h.j +ℤ h.j);
       value = ident h.i h.j ∙ h.value;
       left = sum_same h.left h.right;
-      right = difference_same (omega (arith, l)) (same_refl (pos w) (pos 0)) (sum_same h.right h.right);
+      right = difference_same (omega arith) (same_refl (pos w) (pos 0)) (sum_same h.right h.right);
       kept = (mod-lt _ p, mod-lt _ p);
     }
   where
@@ -83,33 +81,30 @@ exactly_combined w r a b z m false e h =
     ident i j =
         let f : b ≡ a -ℤ (m +ℤ m) = omega (arith, ints) in
         let g : pos 0 -ℤ (j +ℤ j) ≡ neg_ℤ (j +ℤ j) = omega (arith, ints) in
-        simp (g, f, out) (omega (arith, lin))
+        simp (f, out) (omega (arith, lin))
 
 -- ---- along the run
-record Tracks (w : ℕ) (r : Row) (s : State ℤ) (z : ℤ) : Type 0 where
+record Tracks (w : ℕ) (r : Row ℕ) (s : State ℤ) (z : ℤ) : Type 0 where
   bare : ℤ
   whole : bare *ℤ pos (2 ^ s.twos) ≡ z
   exactly : Exactly w r s.a s.b bare
 
-tracks_both : (w : ℕ) (r : Row) (s : State ℤ) (z : ℤ) → odd s.a ≡ false → odd s.b ≡ false → Tracks w r s z → Tracks w r (obeyed whole (command_by false false true true) s) z
+tracks_both : (w : ℕ) (r : Row ℕ) (s : State ℤ) (z : ℤ) → odd s.a ≡ false → odd s.b ≡ false → Tracks w r s z → Tracks w r (obeyed whole (command_by false false true true) s) z
 tracks_both w r s z e f h = by h.bare h.whole h.exactly
   where
     ident : (i j a b u v y : ℤ) → a ≡ u +ℤ u → b ≡ v +ℤ v → i *ℤ a +ℤ j *ℤ b ≡ y → y ≡ (i *ℤ u +ℤ j *ℤ v) +ℤ (i *ℤ u +ℤ j *ℤ v)
     ident i j a b u v y e f g = sym g ∙ simp (e, f, out) (omega (arith, lin))
-
-    twice : (y h u v : ℤ) → y ≡ h +ℤ h → v ≡ u +ℤ u → h *ℤ v ≡ y *ℤ u
-    twice y h u v e f = simp (e, f, out)
 
     by : (y : ℤ) → y *ℤ pos (2 ^ s.twos) ≡ z → Exactly w r s.a s.b y → Tracks w r (obeyed whole (command_by false false true true) s) z
     by y g x =
         let k = ident x.i x.j s.a s.b (half s.a) (half s.b) y (odd_no s.a e) (odd_no s.b f) x.value in
         record {
           bare = x.i *ℤ half s.a +ℤ x.j *ℤ half s.b;
-          whole = twice y _ (pos (2 ^ s.twos)) (pos (2 ^ suc s.twos)) k (ap pos (omega arith)) ∙ g;
+          whole = half_scaled y _ s.twos z k g;
           exactly = record { i = x.i; j = x.j; value = refl; left = x.left; right = x.right; kept = x.kept };
         }
 
-tracks_by : (w : ℕ) (r : Row) (s : State ℤ) (z : ℤ) (p q o x : Bool) → odd s.a ≡ p → odd s.b ≡ q → fourfold (s.a +ℤ s.b) ≡ o → Tracks w r s z
+tracks_by : (w : ℕ) (r : Row ℕ) (s : State ℤ) (z : ℤ) (p q o x : Bool) → odd s.a ≡ p → odd s.b ≡ q → fourfold (s.a +ℤ s.b) ≡ o → Tracks w r s z
     → Tracks w (row_after w (command_by p q o x) r) (obeyed whole (command_by p q o x) s) z
 tracks_by w r s z false false o x e f g h = tracks_both w r s z e f h
 tracks_by w r s z false true o x e f g h =
@@ -122,9 +117,9 @@ tracks_by w r s z true true o true e f g h =
     let k = (joins s.b s.a o f e (ap fourfold (+ℤ_comm s.b s.a) ∙ g)).twice in
     record { bare = h.bare; whole = h.whole; exactly = exactly_combined w _ _ _ _ _ o k (exactly_exchanged w r _ _ _ h.exactly) }
 
-tracks_next : (w : ℕ) (r : Row) (s : State ℤ) (z : ℤ) → Tracks w r s z → Tracks w (row_after w (command whole s) r) (next whole s) z
+tracks_next : (w : ℕ) (r : Row ℕ) (s : State ℤ) (z : ℤ) → Tracks w r s z → Tracks w (row_after w (command whole s) r) (next whole s) z
 unfolding next command
-tracks_next w r s z h = tracks_by w r s z (odd s.a) (odd s.b) (fourfold (s.a +ℤ s.b)) (int_le (pos 0) s.δ) refl refl refl h
+tracks_next w r s z h = grind (arith, tracks_by)
 
 -- ---- the table
 record RowsTrack (p : AdmittedPair) (t : FractionRows) (s : State ℤ) : Type 0 where
@@ -132,11 +127,7 @@ record RowsTrack (p : AdmittedPair) (t : FractionRows) (s : State ℤ) : Type 0 
   first : Tracks (modulus t.order) t.first s p.a
   second : Tracks (modulus t.order) t.second s p.b
 
-abbrev Track : AdmittedPair → Option FractionRows → State ℤ → Type 0
-Track p None s = ⊥
-Track p (Some t) s = RowsTrack p t s
-
-track_start : (p : AdmittedPair) → Track p (fraction_first p) (start_of p)
+track_start : (p : AdmittedPair) → RowsTrack p (first_table p) (start_of p)
 track_start p =
     let w = modulus (order_of p) in
     let l = modulus_many (order_of p) in
@@ -144,84 +135,56 @@ track_start p =
     let none = same_refl (pos w) (pos 0) in
     record {
       order = refl;
-      first = record { bare = p.a; whole = *ℤ-unit p.a; exactly = record { i = pos 1; j = pos 0; value = unit_one p.a p.b; left = one; right = none; kept = (l.1, l.0) } };
-      second = record { bare = p.b; whole = *ℤ-unit p.b; exactly = record { i = pos 0; j = pos 1; value = unit_two p.a p.b; left = none; right = one; kept = (l.0, l.1) } };
-    }
-  where
-    unit_one : (x y : ℤ) → pos 1 *ℤ x +ℤ pos 0 *ℤ y ≡ x
-    unit_one x y = omega (arith, ints)
-
-    unit_two : (x y : ℤ) → pos 0 *ℤ x +ℤ pos 1 *ℤ y ≡ y
-    unit_two x y = omega (arith, ints)
-
-track_next : (p : AdmittedPair) (t : Option FractionRows) (s : State ℤ) → Track p t s → Track p (fraction_turns t (command whole s)) (next whole s)
-track_next p None s h = absurd h
-track_next p (Some t) s h =
-    record {
-      order = h.order;
-      first = tracks_next (modulus t.order) t.first s p.a h.first;
-      second = tracks_next (modulus t.order) t.second s p.b h.second;
+      first = record { bare = p.a; whole = *ℤ-unit p.a; exactly = record { i = pos 1; j = pos 0; value = omega (arith, ints); left = one; right = none; kept = (l.1, l.0) } };
+      second = record { bare = p.b; whole = *ℤ-unit p.b; exactly = record { i = pos 0; j = pos 1; value = omega (arith, ints); left = none; right = one; kept = (l.0, l.1) } };
     }
 
-table_more : (p : AdmittedPair) (k : ℕ) → table_at fraction_first fraction_turns p (suc k) ≡ fraction_turns (table_at fraction_first fraction_turns p k) (command whole (after whole k (start_of p)))
-table_more p k = rw (told_more whole k (start_of p)) (turned_more fraction_turns (fraction_first p) (told whole k (start_of p)) (command whole (after whole k (start_of p))))
+track_next : (p : AdmittedPair) (t : FractionRows) (s : State ℤ) → RowsTrack p t s → RowsTrack p (rows_after (command whole s) t) (next whole s)
+track_next p t s h = grind (arith, tracks_next)
 
-track_none : (p : AdmittedPair) → Track p (table_at fraction_first fraction_turns p 0) (after whole 0 (start_of p))
+-- the table after k commands of the run
+abbrev fractions_at : AdmittedPair → ℕ → FractionRows
+fractions_at = table_at first_table (λ t c. rows_after c t)
+
+track : (p : AdmittedPair) (k : ℕ) → RowsTrack p (fractions_at p k) (after whole k (start_of p))
 unfolding after told turned
-track_none p = track_start p
-
-track : (p : AdmittedPair) (k : ℕ) → Track p (table_at fraction_first fraction_turns p k) (after whole k (start_of p))
-track p zero = track_none p
-track p (suc k) = rw (table_more p k, after_more whole k (start_of p)) (track_next p (table_at fraction_first fraction_turns p k) (after whole k (start_of p)) (track p k))
+track p zero = track_start p
+track p (suc k) = rw (table_more first_table (λ t c. rows_after c t) p k, after_more whole k (start_of p)) (track_next p (fractions_at p k) (after whole k (start_of p)) (track p k))
 
 -- ---- the law
-tracks_related : (w : ℕ) (r : Row) (s : State ℤ) (z : ℤ) → Tracks w r s z → RowRelated w r s z
+tracks_related : (w : ℕ) (r : Row ℕ) (s : State ℤ) (z : ℤ) → Tracks w r s z → RowRelated w r s z
 tracks_related w r s z h =
     let x = h.exactly in
     record { bare = h.bare; whole = h.whole; same = subst (Same (pos w) (pos r.left *ℤ s.a +ℤ pos r.right *ℤ s.b)) x.value (same_add (same-mul s.a x.left) (same-mul s.b x.right)) }
 
-track_related : (p : AdmittedPair) (t : Option FractionRows) (s : State ℤ) → Track p t s → FractionRelated p t s
-track_related p None s h = absurd h
-track_related p (Some t) s h =
-    record {
-      order = h.order;
-      first = subst (λ (n : ℕ). RowRelated (modulus n) t.first s p.a) h.order (tracks_related _ t.first s p.a h.first);
-      second = subst (λ (n : ℕ). RowRelated (modulus n) t.second s p.b) h.order (tracks_related _ t.second s p.b h.second);
-    }
+track_related : (p : AdmittedPair) (t : FractionRows) (s : State ℤ) → RowsTrack p t s → FractionRowsRelated p t s
+track_related p t s h = grind (arith, tracks_related)
 
-track_accepts : (p : AdmittedPair) (t : Option FractionRows) (s : State ℤ) (c : Command) → Track p t s → fraction_accepts t c ≡ true
-track_accepts p None s c h = absurd h
-track_accepts p (Some t) s c h = refl
-
-pub fraction_follows : Follows fraction_first fraction_accepts fraction_turns FractionRelated
-fraction_follows p k _ =
-    record {
-      related = track_related p (table_at fraction_first fraction_turns p k) (after whole k (start_of p)) (track p k);
-      takes = λ _. track_accepts p (table_at fraction_first fraction_turns p k) (after whole k (start_of p)) _ (track p k);
-    }
+pub tables_follow : Follows first_table (λ t c. true) (λ t c. rows_after c t) FractionRowsRelated
+tables_follow p k _ = record { related = track_related p _ _ (track p k); takes = λ _. refl }
 
 -- ---- the end, where b is 0
 -- of a row whose number is z: it reads as the exact entry i, and i·a·2^twos is z
-record Ended (n : ℕ) (r : Row) (s : State ℤ) (z : ℤ) : Type 0 where
+record Ended (n : ℕ) (r : Row ℕ) (s : State ℤ) (z : ℤ) : Type 0 where
   i : ℤ
   reads : read_signed n r.left ≡ i
   small : unsigned_abs i < 2 ^ n
   whole : s.a *ℤ pos (2 ^ s.twos) *ℤ i ≡ z
 
 dropped : (i j a b y : ℤ) → b ≡ pos 0 → i *ℤ a +ℤ j *ℤ b ≡ y → i *ℤ a ≡ y
-dropped i j a b y e g = let q : j *ℤ b ≡ pos 0 = ap (λ k. j *ℤ k) e ∙ *ℤ-zero j in omega (arith, lin)
+dropped i j a b y e g = grind arith
 
 -- a is not 0 at the end of a run that had a b other than 0
-ended_some : (w : ℕ) (r : Row) (s : State ℤ) (z : ℤ) → (z ≢ pos 0) → s.b ≡ pos 0 → Tracks w r s z → s.a ≢ pos 0
-ended_some w r s z some b h = right_some h.exactly.i s.a h.bare (dropped h.exactly.i h.exactly.j s.a s.b h.bare b h.exactly.value) (left_some h.bare (pos (2 ^ s.twos)) z h.whole some)
+ended_some : (w : ℕ) (r : Row ℕ) (s : State ℤ) (z : ℤ) → (z ≢ pos 0) → s.b ≡ pos 0 → Tracks w r s z → s.a ≢ pos 0
+ended_some w r s z some b h = grind arith
 
-ended : (n : ℕ) (r : Row) (s : State ℤ) (z : ℤ) → unsigned_abs z < 2 ^ n → (s.a ≢ pos 0) → s.b ≡ pos 0 → Tracks (modulus n) r s z → Ended n r s z
+ended : (n : ℕ) (r : Row ℕ) (s : State ℤ) (z : ℤ) → unsigned_abs z < 2 ^ n → (s.a ≢ pos 0) → s.b ≡ pos 0 → Tracks (modulus n) r s z → Ended n r s z
 ended n r s z l some b h =
     let x = h.exactly in
     let e = dropped x.i x.j s.a s.b h.bare b x.value in
     let u = factor_most x.i s.a h.bare e some in
     let v = factor_most h.bare (pos (2 ^ s.twos)) z h.whole (pow_some s.twos) in
-    let small : unsigned_abs x.i < 2 ^ n = omega (arith, u, v, l) in
+    let small : unsigned_abs x.i < 2 ^ n = omega arith in
     record { i = x.i; reads = read_is n r.left x.i x.kept.0 small x.left; small = small; whole = scaled x.i s.a (pos (2 ^ s.twos)) h.bare z e h.whole }
   where
     scaled : (i a t y z : ℤ) → i *ℤ a ≡ y → y *ℤ t ≡ z → a *ℤ t *ℤ i ≡ z
@@ -243,22 +206,18 @@ divides_scaled (negsuc g) i x d e h = record { quotient = neg_ℤ h.quotient; ex
 
 -- g·d is no larger than g, and d divides j, which is not 0
 only_one : (g d : ℕ) (j : ℤ) → 0 < g → g * d ≤ g → (j ≢ pos 0) → Divides (pos d) j → d ≡ 1
-only_one g zero j l m some h = absurd (some (h.exact ∙ zero-*ℤ h.quotient))
-only_one g (suc zero) j l m some h = refl
-only_one g (suc (suc d)) j l m some h = absurd (omega arith)
+only_one g d j l m some h = grind arith
 
 -- ---- both negated or neither
 negated_crossed : (b : Bool) (i j x y : ℤ) → i *ℤ y ≡ j *ℤ x → negated_by b i *ℤ y ≡ negated_by b j *ℤ x
-negated_crossed false i j x y e = e
-negated_crossed true i j x y e = neg-*ℤ i y ∙ ap neg_ℤ e ∙ sym (neg-*ℤ j x)
+negated_crossed b i j x y e = grind arith
 
 negated_divides : (b : Bool) (d i : ℤ) → Divides d (negated_by b i) → Divides d i
 negated_divides false d i h = h
 negated_divides true d i h = record { quotient = neg_ℤ h.quotient; exact = sym (neg_ℤ-neg_ℤ i) ∙ ap neg_ℤ h.exact ∙ sym (*ℤ-neg d h.quotient) }
 
 negated_above : (b : Bool) (j : ℤ) → is_negative j ≡ b → (j ≢ pos 0) → pos 0 <ℤ negated_by b j
-negated_above true j e some = omega (arith, ints)
-negated_above false j e some = omega (arith, ints)
+negated_above b j e some = grind arith
 
 -- ---- the read-out
 lowest : (x y i j : ℤ) (s : State ℤ) (b : Bool) → is_negative j ≡ b → (y ≢ pos 0) → s.a *ℤ pos (2 ^ s.twos) *ℤ i ≡ x → s.a *ℤ pos (2 ^ s.twos) *ℤ j ≡ y
@@ -275,7 +234,7 @@ lowest x y i j s b f some e e' g =
           let u' = negated_divides b (pos d) i u in
           let v' = negated_divides b (pos d) j v in
           let m = g.greatest (unsigned_abs k * d) (divides_scaled k i x d e u') (divides_scaled k j y d e' v') in
-          only_one (unsigned_abs k) d j (size_some k k-some) (omega (arith, m, size)) j-some v';
+          only_one (unsigned_abs k) d j (size_some k k-some) (omega arith) j-some v';
     }
   where
     size_some : (k : ℤ) → (k ≢ pos 0) → 0 < unsigned_abs k
@@ -285,30 +244,27 @@ lowest x y i j s b f some e e' g =
 
 reads_reduced : (p : AdmittedPair) (t : FractionRows) (s : State ℤ) → s.b ≡ pos 0 → Greatest (divisor s) p.a p.b → RowsTrack p t s → ReadsReduced p t
 reads_reduced p t s b g h =
-    let n = t.order in
-    let l : unsigned_abs p.a < 2 ^ n = subst (λ (m : ℕ). unsigned_abs p.a < 2 ^ m) (sym h.order) p.admitted.0 in
-    let m : unsigned_abs p.b < 2 ^ n = subst (λ (m : ℕ). unsigned_abs p.b < 2 ^ m) (sym h.order) p.admitted.1 in
-    let some = ended_some (modulus n) t.second s p.b p.admitted.2 b h.second in
-    let u = ended n t.first s p.a l some b h.first in
-    let v = ended n t.second s p.b m some b h.second in
-    by u.i v.i u.reads v.reads (subst (λ (m : ℕ). unsigned_abs u.i < 2 ^ m) h.order u.small) (subst (λ (m : ℕ). unsigned_abs v.i < 2 ^ m) h.order v.small)
-    (lowest p.a p.b u.i v.i s (int_lt v.i (pos 0)) refl p.admitted.2 u.whole v.whole g)
+    let n = order_of p in
+    let first : Tracks (modulus n) t.first s p.a = rw h.order at h.first in
+    let second : Tracks (modulus n) t.second s p.b = rw h.order at h.second in
+    let some = ended_some (modulus n) t.second s p.b p.admitted.2 b second in
+    let u = ended n t.first s p.a p.admitted.0 some b first in
+    let v = ended n t.second s p.b p.admitted.1 some b second in
+    by u.i v.i u.reads v.reads u.small v.small
+    (lowest p.a p.b u.i v.i s (is_negative v.i) refl p.admitted.2 u.whole v.whole g)
   where
-    by : (i j : ℤ) → read_signed t.order t.first.left ≡ i → read_signed t.order t.second.left ≡ j → unsigned_abs i < 2 ^ order_of p → unsigned_abs j < 2 ^ order_of p
+    by : (i j : ℤ) → read_signed (order_of p) t.first.left ≡ i → read_signed (order_of p) t.second.left ≡ j → unsigned_abs i < 2 ^ order_of p → unsigned_abs j < 2 ^ order_of p
         → Reduced p.a p.b (negated_by (is_negative j) i) (negated_by (is_negative j) j) → ReadsReduced p t
     by i j e f l m r =
-        let nu : negated_by (is_negative j) i ≡ numerator_of t = ap₂ (λ x y. negated_by (is_negative y) x) (sym e) (sym f) in
-        let de : negated_by (is_negative j) j ≡ denominator_of t = ap (λ y. negated_by (is_negative y) y) (sym f) in
+        let nu : negated_by (is_negative j) i ≡ numerator_of t = rw (h.order, e, f) in
+        let de : negated_by (is_negative j) j ≡ denominator_of t = rw (h.order, f) in
         record {
           reduced = subst₂ (Reduced p.a p.b) nu de r;
-          numerator = subst (Below (order_of p)) nu (omega (arith, l, negated_size (is_negative j) i));
-          denominator = subst (Below (order_of p)) de (omega (arith, m, negated_size (is_negative j) j));
+          numerator = subst (Below (order_of p)) nu (omega (arith, negated_size (is_negative j) i));
+          denominator = subst (Below (order_of p)) de (omega (arith, negated_size (is_negative j) j));
         }
-
-track_reduced : (p : AdmittedPair) (t : Option FractionRows) (s : State ℤ) → s.b ≡ pos 0 → Greatest (divisor s) p.a p.b → Track p t s → TableReduced p t
-track_reduced p None s b g h = absurd h
-track_reduced p (Some t) s b g h = reads_reduced p t s b g h
 
 pub fraction_reduced : FractionIsReduced
 fraction_reduced p m need =
-    track_reduced p (table_at fraction_first fraction_turns p m) (after whole m (start_of p)) (zero_yes _ need.over) (divisor_greatest p.a p.b p.admitted.2 m need) (track p m)
+    subst (TableReduced p) (sym (begun_table_at first_table (λ t c. rows_after c t) p m))
+    (reads_reduced p (fractions_at p m) (after whole m (start_of p)) (zero_yes _ need.over) (divisor_greatest p.a p.b p.admitted.2 m need) (track p m))

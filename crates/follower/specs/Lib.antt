@@ -1,4 +1,5 @@
 pub mod Signs
+pub mod Exchanged
 pub mod Following
 pub mod Cofactor
 pub mod Entries

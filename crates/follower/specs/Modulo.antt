@@ -1,9 +1,7 @@
 -- Numbers equal modulo w: sums, differences and multiples, and the number of small size that a residue stands for.
-use Rattle.std.specs.Prelude.{◌≡◌, ℕ, zero, suc, ◌+◌, ◌-◌, ◌*◌, ◌/◌, ◌%◌, ◌^◌, ◌<◌, ◌≤◌, true, false, ◌⊎◌, ℤ, pos, negsuc, ◌+ℤ◌, ◌-ℤ◌, ◌*ℤ◌, neg_ℤ, nat_lt, unsigned_abs}
-use Rattle.std.proofs.Common.{◌∙◌, inl, inr, arith, pow-add, pow_pos}
-use Rattle.std.proofs.Math.Nat.{div-add-mod}
+use Rattle.std.specs.Prelude.{◌≡◌, ℕ, zero, suc, ◌+◌, ◌-◌, ◌*◌, ◌/◌, ◌%◌, ◌^◌, ◌<◌, ◌≤◌, ◌⊎◌, ℤ, pos, negsuc, ◌+ℤ◌, ◌-ℤ◌, ◌*ℤ◌, neg_ℤ, unsigned_abs}
+use Rattle.std.proofs.Common.{inl, inr, arith, pow-add, pow_pos}
 use Rattle.std.proofs.lemmas.Int.{ints}
-use Rattle.std.proofs.lemmas.Bool.{lt-ltb, le-ltb, cond-true, cond-false}
 use Rattle.rule.proofs.Ring.{out, lin}
 use Rattle.follower.specs.Fraction.{sum_in, difference_in, Same, modulus, read_signed}
 
@@ -11,20 +9,20 @@ pub same_refl : (w u : ℤ) → Same w u u
 same_refl w u = record { times = pos 0; is = simp out (omega (arith, lin)) }
 
 pub same-trans : {w u v z : ℤ} → Same w u v → Same w v z → Same w u z
-same-trans {w} {u} {v} {z} h k = record { times = h.times +ℤ k.times; is = simp (h.is, k.is, out) (omega (arith, lin)) }
+same-trans {w} {u} {v} {z} h k = record { times = h.times +ℤ k.times; is = simp (h.is, out) (omega (arith, lin)) }
 
 pub same_add : {w u v i j : ℤ} → Same w u v → Same w i j → Same w (u +ℤ i) (v +ℤ j)
-same_add {w} {u} {v} {i} {j} h k = record { times = h.times +ℤ k.times; is = simp (h.is, k.is, out) (omega (arith, lin)) }
+same_add {w} {u} {v} {i} {j} h k = record { times = h.times +ℤ k.times; is = simp out (omega (arith, lin)) }
 
 pub same-neg : {w u v : ℤ} → Same w u v → Same w (neg_ℤ u) (neg_ℤ v)
-same-neg {w} {u} {v} h = record { times = neg_ℤ h.times; is = simp (h.is, out) (omega (arith, lin)) }
+same-neg {w} {u} {v} h = record { times = neg_ℤ h.times; is = simp out (omega (arith, lin)) }
 
 pub same-mul : {w u v : ℤ} (k : ℤ) → Same w u v → Same w (u *ℤ k) (v *ℤ k)
 same-mul {w} {u} {v} k h = record { times = h.times *ℤ k; is = simp (h.is, out) (omega (arith, lin)) }
 
 -- ---- what is kept modulo w
 residue_same : (w z : ℕ) → Same (pos w) (pos (z % w)) (pos z)
-residue_same w z = record { times = neg_ℤ (pos (z / w)); is = simp out (omega (arith, ints, div-add-mod z w)) }
+residue_same w z = record { times = neg_ℤ (pos (z / w)); is = simp out (omega (arith, ints)) }
 
 pub sum_same : {w x y : ℕ} {i j : ℤ} → Same (pos w) (pos x) i → Same (pos w) (pos y) j → Same (pos w) (pos (sum_in w x y)) (i +ℤ j)
 sum_same {w} {x} {y} h k = same-trans (residue_same w (x + y)) (same_add h k)
@@ -43,21 +41,11 @@ near_by w q c z (pos (suc zero)) l h k f = inr (omega (arith, ints))
 near_by w q c z (pos (suc (suc m))) l h k f = absurd (omega (arith, ints))
 near_by w q c z (negsuc m) l h k f = absurd (omega (arith, ints))
 
-pows : (n : ℕ) → (2 ^ (n + 2) ≡ 4 * 2 ^ n) × (2 ^ (n + 1) ≡ 2 * 2 ^ n)
-pows n = let p = pow-add 2 n 2 in let q = pow-add 2 n 1 in (omega arith, omega arith)
+pub pows : (n : ℕ) → (2 ^ (n + 2) ≡ 4 * 2 ^ n) × (2 ^ (n + 1) ≡ 2 * 2 ^ n)
+pows n = grind (arith, pow-add)
 
 pub modulus_many : (n : ℕ) → (0 < modulus n) × (1 < modulus n)
-modulus_many n = let p = pows n in let q = pow_pos n in (omega arith, omega arith)
+modulus_many n = grind (arith, pows, pow_pos)
 
 pub read_is : (n c : ℕ) (z : ℤ) → c < modulus n → unsigned_abs z < 2 ^ n → Same (pos (modulus n)) (pos c) z → read_signed n c ≡ z
-read_is n c z l h s = by (near_by (2 ^ (n + 2)) (2 ^ n) c z s.times (omega (arith, (pows n).0)) l h s.is)
-  where
-    by : (pos c ≡ z) ⊎ (pos c ≡ z +ℤ pos (2 ^ (n + 2))) → read_signed n c ≡ z
-    by (inl f) =
-        let p = pows n in
-        let t : nat_lt c (2 ^ (n + 1)) ≡ true = lt-ltb _ _ (omega (arith, ints)) in
-        cond-true _ _ _ t ∙ f
-    by (inr f) =
-        let p = pows n in
-        let t : nat_lt c (2 ^ (n + 1)) ≡ false = le-ltb _ _ (omega (arith, ints)) in
-        cond-false _ _ _ t ∙ omega (arith, ints)
+read_is n c z l h s = grind (arith, near_by, pows)

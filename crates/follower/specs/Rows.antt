@@ -1,6 +1,6 @@
 -- The cofactor follower takes every command of the run of its pair, and stays in its relation.
-use Rattle.std.specs.Prelude.{◌≡◌, ℕ, zero, suc, ◌+◌, ◌*◌, ◌^◌, ◌≤◌, Bool, true, false, not, ◌&&◌, ◌||◌, ◌⊎◌, List, [], ◌∷◌, ℤ, pos, ◌+ℤ◌, ◌-ℤ◌, ◌*ℤ◌, neg_ℤ, Some, ◌≢◌, int_le, int_lt, unsigned_abs, refl}
-use Rattle.std.proofs.Common.{sym, ap, ap₂, ◌∙◌, subst, subst₂, inl, inr, arith, pow-add, pow_pos}
+use Rattle.std.specs.Prelude.{◌≡◌, ℕ, zero, suc, ◌+◌, ◌*◌, ◌^◌, ◌≤◌, Bool, true, false, not, ◌&&◌, ◌||◌, ◌⊎◌, ℤ, pos, ◌+ℤ◌, ◌-ℤ◌, ◌*ℤ◌, Some, int_le, unsigned_abs, refl}
+use Rattle.std.proofs.Common.{sym, ap, ◌∙◌, subst₂, inl, inr, arith, pow-add, pow_pos}
 use Rattle.std.proofs.Math.IntN.{+ℤ_comm}
 use Rattle.std.proofs.lemmas.Int.{ints}
 use Rattle.std.proofs.lemmas.Bool.{both_ways, or_parts, or_left, or_right, and_from}
@@ -13,12 +13,12 @@ use Rattle.rule.specs.declared.command.Sign.{Sign}
 use Rattle.rule.specs.declared.command.Sign.TheVariants.{Plus, Minus}
 use Rattle.rule.specs.declared.command.Command.{Command}
 use Rattle.rule.specs.declared.pair.AdmittedPair.{AdmittedPair}
-use Rattle.rule.proofs.Ring.{out, lin, *ℤ-unit}
-use Rattle.rule.proofs.Parity.{odd_no, odd_double, Joins, joins, parity}
-use Rattle.rule.proofs.Fuel.{after_more, told_more}
+use Rattle.rule.proofs.Ring.{out, lin}
+use Rattle.rule.proofs.Parity.{odd_no, odd_double, Joins, joins, xor, parity}
+use Rattle.rule.proofs.Fuel.{after_more}
 use Rattle.follower.specs.Following.{turned, table_at, Follows}
-use Rattle.follower.specs.Cofactor.{CofactorRows, first_rows, swapped, combined, corrected, evened, halved_row, in_range, row_fits, rows_take, rows_turn, cofactor_first, cofactor_accepts, cofactor_turns, CofactorRelated}
-use Rattle.follower.specs.FollowingLemmas.{turned_more}
+use Rattle.follower.specs.Cofactor.{CofactorRows, first_rows, swapped, combined, corrected, evened, halved_row, in_range, row_fits, rows_take, rows_turn, CofactorRowsRelated, cofactor_first, cofactor_turns}
+use Rattle.follower.specs.FollowingLemmas.{half_scaled, table_more, begun_table_at}
 
 -- ---- the values of the rows
 pub record Values (u z : ℤ) (r : CofactorRows) : Type 0 where
@@ -42,7 +42,7 @@ values_halved u z w r h p q e =
     ident e f i j x y p q r = omega (arith, lin, simp (p, q, out) at r)
 
 values_swapped : (u z : ℤ) (r : CofactorRows) → Values u z r → Values z u (swapped true r)
-values_swapped u z r h = record { first = h.second; second = h.first }
+values_swapped u z r h = grind arith
 
 values_combined : (u v : ℤ) (r : CofactorRows) (g : Sign) → Values u v r → Values u (summed whole g u v) (combined g r)
 values_combined u v r g h = record { first = h.first; second = ident g r.c r.d r.e r.f r.x r.y h.first h.second }
@@ -65,8 +65,7 @@ corrected_even r false e h k = or_parts (odd r.e) (odd r.f) e
 corrected_even r true e h k = simp parity (evens (odd r.e) (odd r.f) (odd r.x) (odd r.y) h k e)
 
 corrected_size : (E F : ℕ) (r : CofactorRows) (o : Bool) → unsigned_abs r.e ≤ E → unsigned_abs r.f ≤ F → (unsigned_abs (corrected o r).e ≤ E + unsigned_abs r.y) × (unsigned_abs (corrected o r).f ≤ F + unsigned_abs r.x)
-corrected_size E F r false i j = (omega arith, omega arith)
-corrected_size E F r true i j = (omega (arith, ints), omega (arith, ints))
+corrected_size E F r o i j = grind arith
 
 half_size : (z : ℤ) (H : ℕ) → odd z ≡ false → unsigned_abs z ≤ H → 2 * unsigned_abs (half z) ≤ H
 half_size z H e h = omega (arith, ints, odd_no z e)
@@ -92,8 +91,7 @@ halving E F u z w r h e o k l =
     }
 
 summed_size : (g : Sign) (x y : ℤ) (H : ℕ) → 2 * unsigned_abs x ≤ H → 2 * unsigned_abs y ≤ H → unsigned_abs (summed whole g x y) ≤ H
-summed_size Plus x y H h k = omega (arith, ints)
-summed_size Minus x y H h k = omega (arith, ints)
+summed_size g x y H h k = grind arith
 
 -- plus or minus of rows whose values are odd
 joining : (E F : ℕ) (u v w : ℤ) (r : CofactorRows) (q : Bool) → Joins u v w q → Values u v r → (odd r.x || odd r.y) ≡ true
@@ -104,16 +102,10 @@ joining E F u v w r q j h o kc kd ke kf =
     (summed_size (sign_by q) r.c r.e _ kc ke) (summed_size (sign_by q) r.d r.f _ kd kf)
 
 in_range_lem : (n : ℕ) (z : ℤ) → unsigned_abs z ≤ 2 * 2 ^ n → in_range n z ≡ true
-in_range_lem n z h =
-    let p = pow-add 2 n 2 in
-    let q = pow_pos n in
-    let l : int_le (neg_ℤ (pos (2 ^ (n + 2)))) z ≡ true = sym (omega (arith, ints)) in
-    let r : int_lt z (pos (2 ^ (n + 2))) ≡ true = sym (omega (arith, ints)) in
-    and_from _ _ l r
+in_range_lem n z h = grind (arith, pow-add, pow_pos)
 
 row_fits_lem : (E F : ℕ) (u w : ℤ) (r : CofactorRows) → unsigned_abs r.x ≤ 2 ^ r.n → unsigned_abs r.y ≤ 2 ^ r.n → E ≤ 3 * 2 ^ r.n → F ≤ 3 * 2 ^ r.n → Halving E F u w r → row_fits (evened r) ≡ true
-row_fits_lem E F u w r i j k l h =
-    and_from _ _ (and_from _ _ (and_from _ _ (ap not h.even_e) (ap not h.even_f)) (in_range_lem r.n _ (omega (arith, h.size_e)))) (in_range_lem r.n _ (omega (arith, h.size_f)))
+row_fits_lem E F u w r i j k l h = grind (arith, in_range_lem)
 
 -- ---- what the follower keeps
 -- before any command but B: the rows are 1, 0 and 0, 1, and the pair is where the rule stands
@@ -150,27 +142,16 @@ pub record Kept (p : AdmittedPair) (s : State ℤ) (r : CofactorRows) : Type 0 w
 
 -- while any command but B comes, x or y is odd
 some_odd : (s : State ℤ) (r : CofactorRows) → (odd s.a || odd s.b) ≡ true → Phase s r → (odd r.x || odd r.y) ≡ true
-some_odd s r o (inl h) = h.1
-some_odd s r o (inr h) = rw (h.is_x, h.is_y) o
+some_odd s r o h = grind arith
 
 fresh : (s : State ℤ) (r : CofactorRows) → odd s.a ≡ false → Phase s r → Fresh s r
-fresh s r e (inl h) = absurd (both_ways (odd s.a) e h.0)
-fresh s r e (inr h) = h
+fresh s r e h = grind arith
 
 row_one : (c d x y u : ℤ) → c ≡ pos 1 → d ≡ pos 0 → x ≡ u → c *ℤ x +ℤ d *ℤ y ≡ u
-row_one c d x y u p q r = ap₂ (λ i j. i *ℤ x +ℤ j *ℤ y) p q ∙ unit x y ∙ r
-  where
-    unit : (x y : ℤ) → pos 1 *ℤ x +ℤ pos 0 *ℤ y ≡ x
-    unit x y = omega (arith, ints)
+row_one c d x y u p q r = grind arith
 
 row_two : (e f x y v : ℤ) → e ≡ pos 0 → f ≡ pos 1 → y ≡ v → e *ℤ x +ℤ f *ℤ y ≡ v
-row_two e f x y v p q r = +ℤ_comm (e *ℤ x) (f *ℤ y) ∙ row_one f e y x v q p r
-
-half_scaled : (z h : ℤ) (t : ℕ) (w : ℤ) → z ≡ h +ℤ h → z *ℤ pos (2 ^ t) ≡ w → h *ℤ pos (2 ^ suc t) ≡ w
-half_scaled z h t w e f = ident (pos (2 ^ t)) (pos (2 ^ suc t)) (ap pos (omega arith)) ∙ f
-  where
-    ident : (u v : ℤ) → v ≡ u +ℤ u → h *ℤ v ≡ z *ℤ u
-    ident u v g = simp (e, g, out)
+row_two e f x y v p q r = grind arith
 
 abbrev Goes : AdmittedPair → Command → State ℤ → CofactorRows → Type 0
 Goes p k s r = (rows_take r k ≡ true) × Kept p (obeyed whole k s) (rows_turn r k)
@@ -182,15 +163,15 @@ settles : (p : AdmittedPair) (t : State ℤ) (r : CofactorRows) (E F : ℕ) → 
     → odd t.a ≡ true → (odd r.x || odd r.y) ≡ true
     → (row_fits (evened r) ≡ true) × Kept p t (halved_row (evened r))
 settles p t r E F g w le lf c d tight a o = (
-  row_fits_lem E F _ _ r g.size_x g.size_y (omega (arith, le, g.size_y)) lf w,
+  row_fits_lem E F _ _ r g.size_x g.size_y (omega arith) lf w,
   record {
     ground = g;
     values = w.values;
     size_c = c;
     size_d = d;
-    size_e = omega (arith, w.size_e, le);
-    size_f = omega (arith, w.size_f, lf, g.size_x);
-    tight = λ k. let l = tight k in (omega (arith, w.size_e, l.0), omega (arith, w.size_f, l.1, g.size_x));
+    size_e = omega arith;
+    size_f = omega arith;
+    tight = λ k. let l = tight k in (omega arith, omega arith);
     phase = inl (a, o);
   },
 )
@@ -202,7 +183,7 @@ goes_by p s r false false q z a b g h =
     let even-y = odd_no r.y (ap odd w.is_y ∙ b) in
     let i : half r.x ≡ half s.a = ap half w.is_x in
     let j : half r.y ≡ half s.b = ap half w.is_y in
-    let some_y : 1 ≤ unsigned_abs (half r.y) = omega (arith, ints, h.ground.some_y) in
+    let some_y : 1 ≤ unsigned_abs (half r.y) = omega (arith, ints) in
     let one : unsigned_abs r.c ≡ 1 = ap unsigned_abs w.is_c in
     let none : unsigned_abs r.e ≡ 0 = ap unsigned_abs w.is_e in (
       and_from _ _ (ap (λ x. not (odd x)) w.is_x ∙ ap not a) (ap (λ x. not (odd x)) w.is_y ∙ ap not b),
@@ -213,8 +194,8 @@ goes_by p s r false false q z a b g h =
               of_a = half_scaled r.x (half r.x) s.twos p.a even-x h.ground.of_a;
               of_b = half_scaled r.y (half r.y) s.twos p.b even-y h.ground.of_b;
               some_y = some_y;
-              size_x = omega (arith, ints, even-x, h.ground.size_x);
-              size_y = omega (arith, ints, even-y, h.ground.size_y);
+              size_x = omega (arith, ints);
+              size_y = omega (arith, ints);
             };
         values = record { first = row_one _ _ _ _ _ w.is_c w.is_d i; second = row_two _ _ _ _ _ w.is_e w.is_f j };
         size_c = omega arith;
@@ -228,7 +209,7 @@ goes_by p s r false false q z a b g h =
 goes_by p s r false true q z a b g h =
     let o = some_odd s r (or_right _ _ b) h.phase in
     let i = h.tight b in
-    let w = halving (2 * unsigned_abs r.y) (2 * 2 ^ r.n) s.b s.a (half s.a) (swapped true r) (values_swapped _ _ r h.values) (odd_no s.a a) o (omega (arith, h.size_c)) (omega (arith, h.size_d)) in
+    let w = halving (2 * unsigned_abs r.y) (2 * 2 ^ r.n) s.b s.a (half s.a) (swapped true r) (values_swapped _ _ r h.values) (odd_no s.a a) o (omega arith) (omega arith) in
     settles p _ (swapped true r) _ _ h.ground w (omega arith) (omega arith) i.0 i.1 (λ _. (omega arith, omega arith)) b o
 goes_by p s r true false q z a b g h =
     let o = some_odd s r (or_left _ _ a) h.phase in
@@ -252,51 +233,25 @@ unfolding command
 goes p s r h = goes_by p s r (odd s.a) (odd s.b) (fourfold (s.a +ℤ s.b)) (int_le (pos 0) s.δ) refl refl refl h
 
 kept_start : (p : AdmittedPair) → Kept p (start_of p) (first_rows p)
-kept_start p =
-    let k = pow_pos (order_of p) in
-    let h = p.admitted in
-    let o = some p.b h.2 in
-    record {
-      ground = record { order = refl; of_a = *ℤ-unit p.a; of_b = *ℤ-unit p.b; some_y = o; size_x = omega (arith, h.0); size_y = omega (arith, h.1) };
-      values = record { first = row_one (pos 1) (pos 0) p.a p.b p.a refl refl refl; second = row_two (pos 0) (pos 1) p.a p.b p.b refl refl refl };
-      size_c = omega (arith, o);
-      size_d = omega arith;
-      size_e = omega arith;
-      size_f = omega arith;
-      tight = λ _. (omega arith, omega arith);
-      phase = inr (record { is_x = refl; is_y = refl; is_c = refl; is_d = refl; is_e = refl; is_f = refl });
-    }
-  where
-    some : (y : ℤ) → (y ≢ pos 0) → 1 ≤ unsigned_abs y
-    some y n = omega (arith, ints)
+kept_start p = grind arith
 
 -- the rows after k commands of the run
 abbrev pub rows_at : AdmittedPair → ℕ → CofactorRows
-rows_at p k = turned rows_turn (first_rows p) (told whole k (start_of p))
-
-rows_more : (p : AdmittedPair) (k : ℕ) → rows_at p (suc k) ≡ rows_turn (rows_at p k) (command whole (after whole k (start_of p)))
-rows_more p k = ap (turned rows_turn (first_rows p)) (told_more whole k (start_of p)) ∙ turned_more rows_turn (first_rows p) (told whole k (start_of p)) (command whole (after whole k (start_of p)))
+rows_at = table_at first_rows rows_turn
 
 pub kept_at : (p : AdmittedPair) (k : ℕ) → Kept p (after whole k (start_of p)) (rows_at p k)
 unfolding after told turned next
 kept_at p zero = kept_start p
-kept_at p (suc k) = subst₂ (Kept p) (sym (after_more whole k (start_of p))) (sym (rows_more p k)) (goes p (after whole k (start_of p)) (rows_at p k) (kept_at p k)).1
+kept_at p (suc k) = subst₂ (Kept p) (sym (after_more whole k (start_of p))) (sym (table_more first_rows rows_turn p k)) (goes p (after whole k (start_of p)) (rows_at p k) (kept_at p k)).1
 
 -- ---- the follower, whose table is its rows once it is begun
-rows_table_at : (r : CofactorRows) (cs : List Command) → turned cofactor_turns (Some r) cs ≡ Some (turned rows_turn r cs)
-unfolding turned
-rows_table_at r [] = refl
-rows_table_at r (c ∷ cs) = rows_table_at (rows_turn r c) cs
-
 pub cofactor_table_lem : (p : AdmittedPair) (k : ℕ) → table_at cofactor_first cofactor_turns p k ≡ Some (rows_at p k)
-cofactor_table_lem p k = rows_table_at (first_rows p) (told whole k (start_of p))
+cofactor_table_lem p k = begun_table_at first_rows rows_turn p k
 
-pub cofactor_follows : Follows cofactor_first cofactor_accepts cofactor_turns CofactorRelated
-cofactor_follows p k run =
-    let s = after whole k (start_of p) in
+pub rows_follow : Follows first_rows rows_take rows_turn CofactorRowsRelated
+rows_follow p k run =
     let h = kept_at p k in
-    let e = sym (cofactor_table_lem p k) in
     record {
-      related = subst (λ t. CofactorRelated p t s) e (record { first = h.values.first; second = h.values.second; of_a = h.ground.of_a; of_b = h.ground.of_b });
-      takes = λ _. subst (λ t. cofactor_accepts t (command whole s) ≡ true) e (goes p s (rows_at p k) h).0;
+      related = record { first = h.values.first; second = h.values.second; of_a = h.ground.of_a; of_b = h.ground.of_b };
+      takes = λ _. (goes p (after whole k (start_of p)) (rows_at p k) h).0;
     }

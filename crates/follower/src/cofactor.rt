@@ -1,21 +1,20 @@
-// The cofactor follower. Its calls are in cofactor/calls.rt.
-ghost use Rattle.std.specs.Prelude.{◌^◌};
-ghost use Rattle.follower.specs.Entries.{rows_of, PairWithin, RowsWithin};
+// The cofactor follower: at the end of a run it knows cofactors of the greatest common divisor.
+ghost use Rattle.std.specs.Prelude.{◌≡◌};
+ghost use Rattle.follower.specs.CofactorTable.{cofactor_table};
+ghost use Rattle.follower.specs.Readout.{cofactors_at};
 
 use crate::entries::Entries;
+use crate::table::TableFollower;
 
-#[derive(Clone, Copy)]
-struct Begun {
-    entries: Entries,
-    ghost pair: { PairWithin (rows_of entries) },
-    ghost rows: { RowsWithin (2 ^ 58) (rows_of entries) },
+pub type Cofactor = TableFollower<Entries>;
+
+impl TableFollower<Entries> {
+    // The cofactors of a run that ended with a; none before begin.
+    pub fn cofactors(&self, a: i64) -> Option<Cofactors>
+        ensures { result ≡ cofactors_at a (cofactor_table self.now) }
+    {
+        self.table.map(|entries| entries.cofactors(a))
+    }
 }
-
-#[derive(Drop)]
-pub struct Cofactor {
-    begun: Option<Begun>,
-}
-
-mod calls;
 
 pub use crate::entries::Cofactors;

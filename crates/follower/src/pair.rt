@@ -44,7 +44,7 @@ impl<F: Follower, G: Follower> Follower for Pair<F, G> {
 
     fn follow(&mut self, command: Command) -> Result<(), Fault> {
         if !self.takes(command) {
-            return Err(Fault::new(Reason::CommandNotTaken, Layer::Follower, 0));
+            return Err(Reason::CommandNotTaken.by(Layer::Follower));
         }
         self.first.follow(command)?;
         self.second.follow(command)

@@ -3,11 +3,9 @@ use Rattle.std.specs.Prelude.{Option}
 use Rattle.rule.specs.declared.command.Command.{Command}
 use Rattle.rule.specs.declared.pair.AdmittedPair.{AdmittedPair}
 use Rattle.follower.specs.Cofactor.{CofactorRows, cofactor_first, cofactor_turns}
-use Rattle.follower.specs.CofactorTable.{cofactor_table}
+use Rattle.follower.specs.CofactorTable.{CofactorFollower, cofactor_table}
 use Rattle.follower.specs.Fraction.{FractionRows, fraction_first, fraction_turns}
-use Rattle.follower.specs.FractionTable.{fraction_table}
-use Rattle.follower.specs.declared.cofactor.Cofactor.{Cofactor}
-use Rattle.follower.specs.declared.fraction.Fraction.{Fraction}
+use Rattle.follower.specs.FractionTable.{FractionFollower, fraction_table}
 use Rattle.follower.specs.declared.pair.Pair.{Pair}
 
 -- Both tables.
@@ -15,7 +13,7 @@ abbrev pub Tables : Type 0
 Tables = Option CofactorRows × Option FractionRows
 
 -- The tables of both followers.
-abbrev pub tables_of : Pair Cofactor Fraction → Tables
+abbrev pub tables_of : Pair CofactorFollower FractionFollower → Tables
 tables_of f = (cofactor_table f.first, fraction_table f.second)
 
 -- The tables of a pair before any command.

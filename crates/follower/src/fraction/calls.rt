@@ -1,140 +1,77 @@
 // What the fraction follower does.
-ghost use Rattle.std.specs.Prelude.{◌≡◌, ◌^◌, ◌<◌, ◌≤◌, Some, None, Option, unsigned_abs};
-ghost use Rattle.follower.specs.Fraction.{modulus, rows_after, read_signed, numerator_of, denominator_of, FractionRows, fraction_first, fraction_accepts, fraction_turns, FractionRelated};
+ghost use Rattle.std.specs.Prelude.{◌≡◌, true};
+ghost use Rattle.follower.specs.Fraction.{numerator_of, denominator_of, FractionRows, FractionRowsRelated, first_table, rows_after};
 ghost use Rattle.follower.specs.FractionTable.{rows_of, fraction_table, read_out};
-ghost use Rattle.follower.specs.Fractions.{fraction_follows};
-ghost use Rattle.std.proofs.Common.{rules};
+ghost use Rattle.follower.specs.Fractions.{tables_follow};
 
-use super::{Fraction, KeptRows, Ratio};
-use crate::follower::Follower;
+use super::{KeptRows, Ratio};
+use crate::kept::KeptRow;
 use crate::row::Row;
-use crate::signs::{is_negative, negated_by};
+use crate::table::{Table, TableFollower};
 use rule::command::Command;
-use rule::fault::{Fault, Layer, Reason};
-use rule::order::Order;
 use rule::pair::AdmittedPair;
 
-fn power_of_two(exponent: u16) -> u64
-    requires { exponent ≤ 58 }
-    ensures is { result ≡ 2 ^ exponent }
-    ensures fits { result ≤ 2 ^ 58 }
-{
-    1 << exponent
-}
-
-// 2^(n+2)
-fn modulus_of(order: Order) -> u64
-    ensures is { result ≡ modulus order.value }
-    ensures fits { result ≤ 2 ^ 58 }
-{
-    power_of_two(order.value() + 2)
-}
-
-// An entry, read as a signed number of n + 2 bits.
-fn read_signed(order: Order, entry: u64) -> i64
-    requires { entry < modulus order.value }
-    ensures is { result ≡ read_signed order.value entry }
-    ensures small { unsigned_abs result ≤ 2 ^ 58 }
-{
-    if entry < power_of_two(order.value() + 1) {
-        entry as i64
-    } else {
-        entry as i64 - modulus_of(order) as i64
-    }
-}
-
 impl KeptRows {
-    // The table at the start of the run of a pair.
-    fn start(pair: AdmittedPair) -> KeptRows
-        ensures { Some (rows_of result) ≡ fraction_first pair }
-    {
-        KeptRows {
-            order: pair.order(),
-            first: Row { left: 1, right: 0 },
-            second: Row { left: 0, right: 1 },
-        }
-    }
-
-    // The table once a command is done.
-    fn after(self, command: Command) -> KeptRows
-        ensures { rows_of result ≡ rows_after command (rows_of self) }
-    {
-        let modulus = modulus_of(self.order);
-        let first = self.first.after(modulus, command);
-        let second = self.second.after(modulus, command);
-        KeptRows {
-            order: self.order,
-            first,
-            second,
-        }
-    }
-
     // The first column, read as signed numbers, both negated if the lower one is negative.
     fn read_out(self) -> Ratio
         ensures numerator { result.numerator ≡ numerator_of (rows_of self) }
         ensures denominator { result.denominator ≡ denominator_of (rows_of self) }
     {
-        let numerator = read_signed(self.order, self.first.left);
-        let denominator = read_signed(self.order, self.second.left);
-        let negative = is_negative(denominator);
+        let column = Row {
+            left: self.first.signed_left(),
+            right: self.second.signed_left(),
+        };
+        let Row { left, right } = column.negated_by(column.right < 0);
         Ratio {
-            numerator: negated_by(negative, numerator),
-            denominator: negated_by(negative, denominator),
+            numerator: left,
+            denominator: right,
         }
     }
 }
 
-impl Fraction {
-    // A follower that was not begun.
-    pub fn new() -> Fraction
-        ensures { fraction_table result ≡ None }
-    {
-        Fraction { begun: None }
+impl Table for KeptRows {
+    ghost Rows = { FractionRows };
+
+    ghost rows = { rows_of };
+
+    ghost first = { first_table };
+
+    ghost accepts = { λ t c. true };
+
+    ghost turns = { λ t c. rows_after c t };
+
+    ghost relation = { FractionRowsRelated };
+
+    ghost follows = { tables_follow };
+
+    #[tactic(auto, using(crate::specs::Modulo::modulus_many))]
+    fn start(pair: AdmittedPair) -> KeptRows {
+        let order = pair.order();
+        KeptRows {
+            first: KeptRow {
+                order,
+                entries: Row { left: 1, right: 0 },
+            },
+            second: KeptRow {
+                order,
+                entries: Row { left: 0, right: 1 },
+            },
+        }
     }
 
+    fn turned(self, command: Command) -> Option<KeptRows> {
+        Some(KeptRows {
+            first: self.first.after(command),
+            second: self.second.after(command),
+        })
+    }
+}
+
+impl TableFollower<KeptRows> {
     // The fraction that the table is read as; none before begin.
     pub fn read_out(&self) -> Option<Ratio>
         ensures { result ≡ read_out (fraction_table self.now) }
     {
-        match self.begun {
-            Some(rows) => Some(rows.read_out()),
-            None => None,
-        }
-    }
-}
-
-impl Follower for Fraction {
-    ghost Table = { Option FractionRows };
-
-    ghost table = { fraction_table };
-
-    ghost blank = { None };
-
-    ghost first = { fraction_first };
-
-    ghost accepts = { fraction_accepts };
-
-    ghost turns = { fraction_turns };
-
-    ghost relation = { FractionRelated };
-
-    ghost unbegun = { Prim.search rules };
-
-    ghost follows = { fraction_follows };
-
-    fn begin(&mut self, pair: AdmittedPair) {
-        self.begun = Some(KeptRows::start(pair));
-    }
-
-    fn takes(&self, _: Command) -> bool {
-        self.begun.is_some()
-    }
-
-    fn follow(&mut self, command: Command) -> Result<(), Fault> {
-        let Some(rows) = self.begun else {
-            return Err(Fault::new(Reason::CommandNotTaken, Layer::Follower, 0));
-        };
-        self.begun = Some(rows.after(command));
-        Ok(())
+        self.table.map(|rows| rows.read_out())
     }
 }

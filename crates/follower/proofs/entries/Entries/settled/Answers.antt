@@ -1,12 +1,12 @@
-use Rattle.std.proofs.Common.{◌≡◌, ◌^◌, true, sym, ap, ◌∙◌, subst}
-use Rattle.follower.specs.Cofactor.{halved_row, row_fits}
-use Rattle.follower.specs.Entries.{rows_of, Within}
-use Rattle.follower.proofs.Within.{within_settled}
+use Rattle.std.proofs.Common.{◌^◌, ◌∙◌, sym, rules}
+use Rattle.std.proofs.lemmas.Bool.{and_parts}
+use Rattle.follower.specs.Entries.{Within}
+use Rattle.follower.proofs.Within.{range_within}
 use Rattle.follower.proofs.entries.Entries.settled.Goals as goal
 
-pub returns-then-row_fits : goal.returns-then-row_fits
-returns-then-row_fits c =
-    let e = c.evened-evened.ensures in
-    let t = subst (λ r. row_fits r ≡ true) e (sym c.if-row_fits.ensures) in
-    let h = c.halved_row.ensures ∙ ap halved_row e in
-    (t, h, subst (Within (2 ^ 58)) (sym h) (within_settled (rows_of c.args.self) c.args.self.order.admitted.1 t c.requires))
+pub then-requires : goal.then-requires
+then-requires c = λ t.
+    let n = c.args.self.order in
+    let e = sym c.fits.ensures ∙ (and_parts c.is_even-2.result c.fits.result t).1 in
+    let w : Within (2 ^ 58) c.halved-halved.result = range_within n.value c.halved-halved.result n.admitted.1 e in
+    search rules

@@ -9,7 +9,7 @@ use Rattle.rule.specs.declared.pair.AdmittedPair.{AdmittedPair}
 use Rattle.frame.specs.Results.{result_frame}
 use Rattle.frame.specs.Writing.{Writes}
 use Rattle.frame.specs.declared.reduction.Reduction.{Reduction}
-use Rattle.engine.specs.Meaning.{Meaning, count_of}
+use Rattle.engine.specs.Meaning.{count_of}
 use Rattle.unit.specs.Answers.{refusal, WritesIfRoom, CollectsFrom, CollectAnswer}
 use Rattle.reduction.specs.Followers.{Tables, first_tables, next_tables}
 use Rattle.reduction.specs.Results.{Along, ReadsOut}

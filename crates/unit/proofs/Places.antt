@@ -1,5 +1,5 @@
 -- Where a unit stands, from what its type keeps.
-use Rattle.std.proofs.Common.{◌≡◌, ℕ, ◌+◌, Bool, true, false, Some, None, Option, sym, refl, ap, ◌∙◌, subst, ap₂}
+use Rattle.std.proofs.Common.{◌≡◌, ℕ, Some, None, Option, sym, refl, ap, ◌∙◌, ap₂}
 use Rattle.std.proofs.Math.Logic.{∥∥₁_elim}
 use Rattle.std.proofs.Math.Option.{is_set}
 use Rattle.std.proofs.Math.IntN.{ℤ_set}
@@ -14,7 +14,7 @@ use Rattle.rule.specs.declared.pair.AdmittedPair.{AdmittedPair}
 use Rattle.engine.specs.Meaning.{Meaning, held, count_of}
 use Rattle.reduction.specs.Followers.{Tables, first_tables, next_tables}
 use Rattle.reduction.specs.Results.{state_at, Along}
-use Rattle.reduction.proofs.Readouts.{some_same, some_none, count_stands}
+use Rattle.reduction.proofs.Readouts.{count_stands}
 use Rattle.unit.specs.Standing.{Contents, Standing, standing_at, standing_of, empty, holds, Stands, Placed}
 
 meaning_set : IsSet Meaning

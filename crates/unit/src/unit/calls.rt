@@ -84,12 +84,9 @@ impl<E: Engine> Unit<E, Followers> {
     pub fn collect(&self, buffer: &mut [u8]) -> Result<usize, Fault>
         ensures { Collects self.now buffer.old result buffer.new }
     {
-        let Some(pair) = self.pair else {
-            return Err(Reason::NothingHeld.by(Layer::Unit));
-        };
-        let Some(reduction) = read_out(pair, &self.engine, &self.followers) else {
-            return Err(Reason::RunNotOver.by(Layer::Unit));
-        };
+        let pair = self.pair.ok_or(Reason::NothingHeld.by(Layer::Unit))?;
+        let result = read_out(pair, &self.engine, &self.followers);
+        let reduction = result.ok_or(Reason::RunNotOver.by(Layer::Unit))?;
         write_result(&reduction, buffer)
     }
 }

@@ -1,4 +1,4 @@
-use Rattle.std.proofs.Common.{◌≡◌, ◌+◌, true, leb, Some, None, sym, refl, ◌∙◌, subst, inl, inr, arith, rules}
+use Rattle.std.proofs.Common.{◌≡◌, true, leb, sym, refl, ◌∙◌, subst, inl, inr, arith}
 use Rattle.std.proofs.lemmas.Bool.{lt-leb, and_left, and_right}
 use Rattle.unit.specs.Calls.{contents}
 use Rattle.unit.proofs.Works.{there_is, never_refused, never_over, placed_more, Comes, comes_none, comes_more, works_over, works_refused, works}

@@ -1,6 +1,7 @@
 -- The law, from the answers of all calls.
 use Rattle.std.proofs.Common.{◌≡◌, ℕ, zero, suc, ◌+◌, ◌-◌, min, Bool, true, false, cond, ◌&&◌, eqb, leb, List, [], ◌∷◌, ◌++◌, map, reverse, Some, None, Ok, Err, Option, Result, sym, refl, ap, ◌∙◌, subst, ap₂, inl, inr, arith}
 use Rattle.std.proofs.lemmas.List.{map_push, reverse-append}
+use Rattle.std.proofs.lemmas.Option.{none-some, same_Some}
 use Rattle.std.proofs.lemmas.Bool.{cases_Bool, leb-true, leb-false, eq-eqb, ne_eqb, le-leb, cond-true}
 use Rattle.rule.specs.Pairs.{order_of, start_of}
 use Rattle.rule.specs.Refusal.{number, fault}
@@ -22,8 +23,8 @@ use Rattle.unit.specs.Calls.{contents, place}
 use Rattle.unit.specs.Standing.{empty, Stands}
 use Rattle.unit.specs.declared.unit.Unit.{Unit as AnyUnit}
 use Rattle.unit.proofs.Places.{stands_there}
+use Rattle.unit.proofs.Works.{ok_err}
 use Rattle.unit.specs.declared.unit.Worked.{Worked}
-use Rattle.reduction.proofs.Readouts.{some_same, some_none}
 use Rattle.session.specs.History.{Event, load, stint, work, collect, clear, call_of, answer_of, Held, sum_of, worked_more, held_in, stint_after, stint_in, standing}
 use Rattle.session.specs.Performs.{Happened, Performed}
 use Rattle.session.specs.declared.call.Answer.{Answer}
@@ -36,15 +37,12 @@ ok_same e = cc
 err_same : {X Y : Type 0} {x y : Y} → ◌≡◌ {A = Result X Y} (Err x) (Err y) → x ≡ y
 err_same e = cc
 
-pub ok_err : {X Y : Type 0} {x : X} {y : Y} → ◌≡◌ {A = Result X Y} (Ok x) (Err y) → ⊥
-ok_err e = let z : ◌≡◌ {A = ℕ} 0 1 = cc in omega arith
-
 -- ---- an empty unit takes every pair
 pub takes_all : (largest : ℕ) → TakesAll largest empty
 takes_all largest p l (Ok q) h = refl
 takes_all largest p l (Err f) h =
     let there = pair_read_back (order_of p) p.a p.b p.order.admitted p.admitted in
-    absurd (some_none (sym (sym (cond-true _ _ _ (le-leb (order_of p) largest l)) ∙ sym (ap (load_objection largest) there) ∙ h)))
+    absurd (none-some _ (sym (cond-true _ _ _ (le-leb (order_of p) largest l)) ∙ sym (ap (load_objection largest) there) ∙ h))
 
 -- ---- (a): the need and the works
 counted_load : (p : AdmittedPair) → Counted (record { pair = p; works = [] })
@@ -62,7 +60,7 @@ worked_is left most budget w e = let same = by (eqb left 0) (leb 1 budget && leb
     by false false e = absurd (ok_err e)
 
 counted_work : (budget most : ℕ) (w : Worked) (o : Option Held) → ((q : Held) → o ≡ Some q → Counted q) → WorkAnswer (standing o) most budget (Ok w) → (q : Held) → worked_more (budget, w) o ≡ Some q → Counted q
-counted_work budget most w None before a q e = absurd (some_none (sym e))
+counted_work budget most w None before a q e = absurd (none-some _ e)
 counted_work budget most w (Some h) before a q e =
     let k = before h refl in
     let sum = sum_of h.works in
@@ -73,18 +71,18 @@ counted_work budget most w (Some h) before a q e =
       | inl t ↦ did.1 ∙ t ∙ sym (eq-eqb (k.need - sum - w.done) 0 (omega (arith, u, did.0, leb-true a.left budget t)))
       | inr f ↦ did.1 ∙ f ∙ sym (ne_eqb (k.need - sum - w.done) 0 (λ z. omega (arith, z, u, did.0, leb-false a.left budget f)))
     ] in
-    subst Counted (some_same e)
+    subst Counted (same_Some _ _ e)
     (record { need = k.need; needs = k.needs; bound = k.bound; within = omega (arith, u, did.0); works = (omega (arith, u, did.0), over, k.works) })
 
 counted : (largest n : ℕ) (h : List Event) → AllAnswered largest n h → (o : Held) → held_in h ≡ Some o → Counted o
-counted largest n [] a o e = absurd (some_none (sym e))
-counted largest n (load frame (Ok p) ∷ h) a o e = subst Counted (some_same e) (counted_load p)
+counted largest n [] a o e = absurd (none-some _ e)
+counted largest n (load frame (Ok p) ∷ h) a o e = subst Counted (same_Some _ _ e) (counted_load p)
 counted largest n (load frame (Err f) ∷ h) a o e = counted largest n h a.1 o e
 counted largest n (stint most r ∷ h) a o e = counted largest n h a.1 o e
 counted largest n (work budget (Ok w) ∷ h) a o e = counted_work budget (stint_in n h) w (held_in h) (counted largest n h a.1) a.0 o e
 counted largest n (work budget (Err f) ∷ h) a o e = counted largest n h a.1 o e
 counted largest n (collect before r after ∷ h) a o e = counted largest n h a.1 o e
-counted largest n (clear (Ok _) ∷ h) a o e = absurd (some_none (sym e))
+counted largest n (clear (Ok _) ∷ h) a o e = absurd (none-some _ e)
 counted largest n (clear (Err f) ∷ h) a o e = counted largest n h a.1 o e
 
 -- ---- (b): a collect

@@ -17,9 +17,9 @@ use Rattle.unit.specs.Calls.{place, Loads, Works, Collects, Clears}
 use Rattle.unit.specs.Standing.{Standing, standing_at, empty, holds}
 use Rattle.unit.specs.declared.unit.Unit.{Unit as AnyUnit}
 use Rattle.unit.specs.declared.unit.Worked.{Worked}
-use Rattle.unit.proofs.Works.{left_some}
+use Rattle.unit.proofs.Works.{left_some, ok_err}
 use Rattle.session.specs.Reduces.{FrameRefused, FrameReduced, ReducesBy, ReducesFrame}
-use Rattle.session.proofs.Laws.{ok_err, worked_is}
+use Rattle.session.proofs.Laws.{worked_is}
 
 -- how many commands into its run a unit stands
 abbrev pub steps : Standing → ℕ

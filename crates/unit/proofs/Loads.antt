@@ -1,6 +1,7 @@
 -- What a unit that takes a pair does.
 use Rattle.std.proofs.Common.{◌≡◌, ℕ, ◌≤◌, List, Some, None, Ok, sym, ap, subst, ap₂}
 use Rattle.std.proofs.lemmas.Bool.{true≢false}
+use Rattle.std.proofs.lemmas.Option.{same_Some}
 use Rattle.rule.specs.Pairs.{order_of, start_of}
 use Rattle.rule.specs.declared.command.Command.{Command}
 use Rattle.rule.specs.declared.pair.AdmittedPair.{AdmittedPair}
@@ -13,7 +14,6 @@ use Rattle.unit.specs.Answers.{LoadAnswer}
 use Rattle.unit.specs.Calls.{Loads}
 use Rattle.unit.specs.Standing.{standing_at, Placed}
 use Rattle.unit.specs.declared.unit.Unit.{Unit as AnyUnit}
-use Rattle.reduction.proofs.Readouts.{some_same}
 use Rattle.unit.proofs.Works.{along_start}
 
 pub loads : {E F : Type 0} {e : Engine.Ghosts E} {f : Follower.Ghosts F} (u u' : AnyUnit E F e f) (frame : List ℕ) (p : AdmittedPair) → u.pair ≡ None → u'.pair ≡ Some p → u'.stint ≡ u.stint → frame ≡ frame_of p → order_of p ≤ e.largest → e.meaning u'.engine ≡ held (order_of p) (start_of p) → f.table u'.followers ≡ f.first p → Loads u frame (Ok p) u'
@@ -31,4 +31,4 @@ loads {e} {f} u u' frame p none some stint of_pair order engine table = (
 pub placed_first : {T : Type 0} (first : AdmittedPair → T) (turns : T → Command → T) (p : AdmittedPair) (m : Meaning) (t : T) → m ≡ held (order_of p) (start_of p) → t ≡ first p → Placed first turns (Some p) m t
 placed_first first turns p m t engine table q e =
     let a = subst (λ (k : ℕ). Along first turns p k m t) (sym (ap count_of engine)) (along_start first turns p m t engine table) in
-    ∣ subst (λ x. Along first turns x (count_of m) m t) (some_same e) a ∣₁
+    ∣ subst (λ x. Along first turns x (count_of m) m t) (same_Some p q e) a ∣₁

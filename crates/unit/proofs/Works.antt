@@ -49,13 +49,10 @@ module _ {T : Type 0} (first : AdmittedPair → T) (turns : T → Command → T)
   advanced p k m m' t c a h = subst (λ x. Advances x (Ok c) m') a.engine h
 
   -- the command that the engine tells is taken
-  pub never_refused : (p : AdmittedPair) (m m' : Meaning) (t t' : T) (c : Command) (r : Fault) (accepts : T → Command → Bool) (relation : AdmittedPair → T → State ℤ → Type 0) → Follows first accepts turns relation → ∥ Along first turns p (count_of m) m t ∥₁ → Advances m (Ok c) m' → Followed accepts turns t c (Err r) t' → ⊥
-  never_refused p m m' t t' c r accepts relation follows l h g = ∥∥₁_elim l (λ x y. absurd x) taken
-    where
-      taken : Along first turns p (count_of m) m t → ⊥
-      taken a =
-          let d = advanced p (count_of m) m m' t c a h in
-          both_ways (accepts t c) g.0 (ap₂ accepts a.table d.1 ∙ (follows p (count_of m) a.running).takes d.0)
+  along_takes : (p : AdmittedPair) (k : ℕ) (m m' : Meaning) (t t' : T) (c : Command) (r : Fault) (accepts : T → Command → Bool) (relation : AdmittedPair → T → State ℤ → Type 0) → Follows first accepts turns relation → Along first turns p k m t → Advances m (Ok c) m' → Followed accepts turns t c (Err r) t' → ⊥
+  along_takes p k m m' t t' c r accepts relation follows a h g =
+      let d = advanced p k m m' t c a h in
+      both_ways (accepts t c) g.0 (ap₂ accepts a.table d.1 ∙ (follows p k a.running).takes d.0)
 
   pub along_more : (p : AdmittedPair) (k : ℕ) (m m' : Meaning) (t t' : T) (c : Command) → Along first turns p k m t → Advances m (Ok c) m' → t' ≡ turns t c → Along first turns p (suc k) m' t'
   along_more p k m m' t t' c a h g =
@@ -100,7 +97,7 @@ over_budget p k stint budget r z e =
     record { left = l.0; need = l.1; answer = sym (cond-false _ _ _ e) ∙ sym (cond-false _ _ _ (ne_eqb l.0 0 (λ n. omega (arith, left_some p k l.0 l.1 z)))) }
 
 -- ---- work, on a unit
-ok_err : {X Y : Type 0} {x : X} {y : Y} → ◌≡◌ {A = Result X Y} (Ok x) (Err y) → ⊥
+pub ok_err : {X Y : Type 0} {x : X} {y : Y} → ◌≡◌ {A = Result X Y} (Ok x) (Err y) → ⊥
 ok_err e = let z : ◌≡◌ {A = ℕ} 0 1 = cc in omega arith
 
 pub there_is : {X : Type 0} (o : Option X) → is_some o ≡ true → (x : X) × (o ≡ Some x)
@@ -116,25 +113,18 @@ counted : (m m' : Meaning) (c : Command) → Advances m (Ok c) m' → count_of m
 counted idle m' c h = absurd (ok_err h.0)
 counted (held n s) m' c h = ap count_of h.2 ∙ count_next whole s
 
-module _ {T : Type 0} (first : AdmittedPair → T) (turns : T → Command → T) where
-  -- what the type keeps of a unit is so after one command more, which is always taken
-  pub placed_more : (pair : Option AdmittedPair) (m m' : Meaning) (t t' : T) (c : Command) (r : Result (Unit {0}) Fault) (accepts : T → Command → Bool) (relation : AdmittedPair → T → State ℤ → Type 0)
-      → Follows first accepts turns relation → Placed first turns pair m t → Advances m (Ok c) m' → Followed accepts turns t c r t' → Placed first turns pair m' t'
-  placed_more pair m m' t t' c (Ok _) accepts relation follows h a g p some =
-      ∥∥₁_map (h p some) (λ l. subst (λ (k : ℕ). Along first turns p k m' t') (sym (counted m m' c a)) (along_more first turns p (count_of m) m m' t t' c l a g.1))
-  placed_more pair m m' t t' c (Err r) accepts relation follows h a g p some = absurd (never_refused first turns p m m' t t' c r accepts relation follows (h p some) a g)
+-- what a unit with contents c holds after so many commands
+pub record Comes {T : Type 0} (first : AdmittedPair → T) (turns : T → Command → T) (c d : Contents T) (done : ℕ) : Type 0 where
+  pub pair : d.pair ≡ c.pair
+  pub stint : d.stint ≡ c.stint
+  pub count : count_of d.engine ≡ count_of c.engine + done
+  pub along : (p : AdmittedPair) (k : ℕ) → Along first turns p k c.engine c.table → Along first turns p (k + done) d.engine d.table
 
-  -- what a unit with contents c holds after so many commands
-  pub record Comes (c d : Contents T) (done : ℕ) : Type 0 where
-    pub pair : d.pair ≡ c.pair
-    pub stint : d.stint ≡ c.stint
-    pub count : count_of d.engine ≡ count_of c.engine + done
-    pub along : (p : AdmittedPair) (k : ℕ) → Along first turns p k c.engine c.table → Along first turns p (k + done) d.engine d.table
-
-  pub comes_none : (c : Contents T) → Comes c c 0
+module _ {T : Type 0} {first : AdmittedPair → T} {turns : T → Command → T} where
+  pub comes_none : (c : Contents T) → Comes first turns c c 0
   comes_none c = record { pair = refl; stint = refl; count = omega arith; along = λ p k a. subst (λ (j : ℕ). Along first turns p j c.engine c.table) (omega arith) a }
 
-  pub comes_more : (c d : Contents T) (done : ℕ) (m : Meaning) (t : T) (x : Command) → Comes c d done → Advances d.engine (Ok x) m → t ≡ turns d.table x → Comes c (record { pair = d.pair; stint = d.stint; engine = m; table = t }) (done + 1)
+  pub comes_more : (c d : Contents T) (done : ℕ) (m : Meaning) (t : T) (x : Command) → Comes first turns c d done → Advances d.engine (Ok x) m → t ≡ turns d.table x → Comes first turns c (record { pair = d.pair; stint = d.stint; engine = m; table = t }) (done + 1)
   comes_more c d done m t x h a g = record {
     pair = h.pair;
     stint = h.stint;
@@ -142,47 +132,65 @@ module _ {T : Type 0} (first : AdmittedPair → T) (turns : T → Command → T)
     along = λ p k l. subst (λ (j : ℕ). Along first turns p j m t) (omega arith) (along_more first turns p (k + done) d.engine m d.table t x (h.along p k l) a g);
   }
 
-module _ {E F : Type 0} {e : Engine.Ghosts E} {f : Follower.Ghosts F} where
-  module _ (u : AnyUnit E F e f) (p : AdmittedPair) (some : u.pair ≡ Some p) where
-    place_is : place u ≡ holds p (count_of (e.meaning u.engine))
-    place_is = ap (λ o. standing_at o (count_of (e.meaning u.engine))) some
+module _ {E F : Type 0} {e : Engine.Ghosts E} {f : Follower.Ghosts F} (u : AnyUnit E F e f) where
+  -- the command that the engine tells is taken
+  pub never_refused : (p : AdmittedPair) → u.pair ≡ Some p → (m : Meaning) (t : f.Table) (c : Command) (r : Fault) → Follows f.first f.accepts f.turns f.relation → Advances (e.meaning u.engine) (Ok c) m → Followed f.accepts f.turns (f.table u.followers) c (Err r) t → ⊥
+  never_refused p some m t c r follows a g =
+      ∥∥₁_elim (u.placed p some) (λ x y. absurd x) (λ l. along_takes f.first f.turns p (count_of (e.meaning u.engine)) (e.meaning u.engine) m (f.table u.followers) t c r f.accepts f.relation follows l a g)
 
-    there : Running whole (start_of p) (count_of (e.meaning u.engine)) × (e.meaning u.engine ≡ held (order_of p) (state_at p (count_of (e.meaning u.engine))))
-    there = reached f.first f.turns p _ _ _ (u.placed p some)
+  -- so what the type keeps of the unit is so after one command more
+  pub placed_more : (m : Meaning) (t : f.Table) (c : Command) (r : Result (Unit {0}) Fault) → Follows f.first f.accepts f.turns f.relation → Advances (e.meaning u.engine) (Ok c) m → Followed f.accepts f.turns (f.table u.followers) c r t → Placed f.first f.turns u.pair m t
+  placed_more m t c (Ok _) follows a g p some =
+      let n = e.meaning u.engine in
+      ∥∥₁_map (u.placed p some) (λ l. subst (λ (k : ℕ). Along f.first f.turns p k m t) (sym (counted n m c a)) (along_more f.first f.turns p (count_of n) n m (f.table u.followers) t c l a g.1))
+  placed_more m t c (Err r) follows a g p some = absurd (never_refused p some m t c r follows a g)
 
-    -- whether the run is over
-    over_there : is_over (e.meaning u.engine) ≡ is_zero (state_at p (count_of (e.meaning u.engine))).b
-    over_there = ap is_over there.1
+-- of a unit that holds the pair q.0
+module _ {E F : Type 0} {e : Engine.Ghosts E} {f : Follower.Ghosts F} (u : AnyUnit E F e f) (q : (p : AdmittedPair) × (u.pair ≡ Some p)) where
+  -- the commands of its run that have been done
+  abbrev done_of : ℕ
+  done_of = count_of (e.meaning u.engine)
 
-    refused : (budget : ℕ) (r : Fault) → WorksOn p (count_of (e.meaning u.engine)) u.stint budget (Err r) → Works u budget (Err r) u
-    refused budget r h = (
-      subst (λ s. WorkAnswer s u.stint budget (Err r)) (sym place_is) h,
-      record { standing = sym (refused_stays (place u) r); stint = refl; unmoved = λ _. refl; stands = subst (λ s. Stands f.first f.turns s (contents u)) (sym (refused_stays (place u) r)) },
-    )
+  place_is : place u ≡ holds q.0 done_of
+  place_is = ap (λ o. standing_at o done_of) q.1
 
-    pub works_over : (budget : ℕ) (r : Fault) → is_over (e.meaning u.engine) ≡ true → r ≡ fault RunOver UnitLayer 0 → Works u budget (Err r) u
-    works_over budget r z i =
-        let n : Need whole (start_of p) (count_of (e.meaning u.engine)) = record { over = sym over_there ∙ z; before = there.0 } in
-        refused budget r (record { left = 0; need = subst (Need whole (start_of p)) (omega arith) n; answer = ap Err i })
+  there : Running whole (start_of q.0) done_of × (e.meaning u.engine ≡ held (order_of q.0) (state_at q.0 done_of))
+  there = reached f.first f.turns q.0 done_of (e.meaning u.engine) (f.table u.followers) (u.placed q.0 q.1)
 
-    pub works_refused : (budget : ℕ) (r : Fault) → is_over (e.meaning u.engine) ≡ false → r ≡ fault BudgetOutOfRange UnitLayer 0 → (leb 1 budget && leb budget u.stint) ≡ false → Works u budget (Err r) u
-    works_refused budget r z i out = refused budget r (subst (WorksOn p _ u.stint budget) (ap Err (sym i)) (over_budget p _ u.stint budget there.0 (sym over_there ∙ z) out))
+  over_there : is_over (e.meaning u.engine) ≡ is_zero (state_at q.0 done_of).b
+  over_there = ap is_over there.1
 
-    -- an engine whose run is not over advances
-    pub never_over : (r : Fault) (m : Meaning) → is_over (e.meaning u.engine) ≡ false → Advances (e.meaning u.engine) (Err r) m → ⊥
-    never_over r m z a = both_ways _ (sym over_there ∙ z) (subst (λ x. Advances x (Err r) m) there.1 a).0
+  refused : (budget : ℕ) (r : Fault) → WorksOn q.0 done_of u.stint budget (Err r) → Works u budget (Err r) u
+  refused budget r h = (
+    subst (λ s. WorkAnswer s u.stint budget (Err r)) (sym place_is) h,
+    record { standing = sym (refused_stays (place u) r); stint = refl; unmoved = λ _. refl; stands = subst (λ s. Stands f.first f.turns s (contents u)) (sym (refused_stays (place u) r)) },
+  )
 
-  pub works : (u v : AnyUnit E F e f) (p : AdmittedPair) (budget : ℕ) (w : Worked) → u.pair ≡ Some p → is_over (e.meaning u.engine) ≡ false → Comes f.first f.turns (contents u) (contents v) w.done → w.over ≡ is_over (e.meaning v.engine) → w.done ≤ budget → (w.over ≡ true) ⊎ (budget ≤ w.done) → 1 ≤ budget → budget ≤ u.stint → Works u budget (Ok w) v
-  works u v p budget w some z h over most why b s =
+  pub works_over : (budget : ℕ) (r : Fault) → is_over (e.meaning u.engine) ≡ true → r ≡ fault RunOver UnitLayer 0 → Works u budget (Err r) u
+  works_over budget r z i =
+      let n : Need whole (start_of q.0) done_of = record { over = sym over_there ∙ z; before = there.0 } in
+      refused budget r (record { left = 0; need = subst (Need whole (start_of q.0)) (omega arith) n; answer = ap Err i })
+
+  pub works_refused : (budget : ℕ) (r : Fault) → is_over (e.meaning u.engine) ≡ false → r ≡ fault BudgetOutOfRange UnitLayer 0 → (leb 1 budget && leb budget u.stint) ≡ false → Works u budget (Err r) u
+  works_refused budget r z i out = refused budget r (subst (WorksOn q.0 done_of u.stint budget) (ap Err (sym i)) (over_budget q.0 done_of u.stint budget there.0 (sym over_there ∙ z) out))
+
+  -- an engine whose run is not over advances
+  pub never_over : (r : Fault) (m : Meaning) → is_over (e.meaning u.engine) ≡ false → Advances (e.meaning u.engine) (Err r) m → ⊥
+  never_over r m z a = both_ways _ (sym over_there ∙ z) (subst (λ x. Advances x (Err r) m) there.1 a).0
+
+module _ {E F : Type 0} {e : Engine.Ghosts E} {f : Follower.Ghosts F} (u v : AnyUnit E F e f) (budget : ℕ) (q : (p : AdmittedPair) × (u.pair ≡ Some p)) where
+  pub works : (w : Worked) → is_over (e.meaning u.engine) ≡ false → (budget ≡ 0 → ⊥) → budget ≤ u.stint → Comes f.first f.turns (contents u) (contents v) w.done → w.over ≡ is_over (e.meaning v.engine) → w.done ≤ budget → (w.over ≡ true) ⊎ (budget ≤ w.done) → Works u budget (Ok w) v
+  works w z b s h over most why =
+      let p = q.0 in
       let k = count_of (e.meaning u.engine) in
-      let some' = h.pair ∙ some in
-      let running = subst (Running whole (start_of p)) h.count (there v p some').0 in
-      let over' = over ∙ over_there v p some' ∙ ap (λ (j : ℕ). is_zero (state_at p j).b) h.count in (
-        subst (λ x. WorkAnswer x u.stint budget (Ok w)) (sym (place_is u p some)) (works_on p k u.stint budget w (there u p some).0 (sym (over_there u p some) ∙ z) running over' most why b s),
+      let q' : (p : AdmittedPair) × (v.pair ≡ Some p) = (p, h.pair ∙ q.1) in
+      let running = subst (Running whole (start_of p)) h.count (there v q').0 in
+      let over' = over ∙ over_there v q' ∙ ap (λ (j : ℕ). is_zero (state_at p j).b) h.count in (
+        subst (λ x. WorkAnswer x u.stint budget (Ok w)) (sym (place_is u q)) (works_on p k u.stint budget w (there u q).0 (sym (over_there u q) ∙ z) running over' most why (omega (arith, b)) s),
         record {
-          standing = place_is v p some' ∙ ap (holds p) h.count ∙ ap (λ x. worked_to x (Ok w)) (sym (place_is u p some));
+          standing = place_is v q' ∙ ap (holds p) h.count ∙ ap (λ x. worked_to x (Ok w)) (sym (place_is u q));
           stint = h.stint;
           unmoved = λ e. absurd (true≢false e);
-          stands = subst (λ x. Stands f.first f.turns x (contents u) → Stands f.first f.turns (worked_to x (Ok w)) (contents v)) (sym (place_is u p some)) (λ l. record { pair = some'; along = h.along p k l.along });
+          stands = subst (λ x. Stands f.first f.turns x (contents u) → Stands f.first f.turns (worked_to x (Ok w)) (contents v)) (sym (place_is u q)) (λ l. record { pair = q'.1; along = h.along p k l.along });
         },
       )

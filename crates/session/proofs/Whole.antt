@@ -1,6 +1,6 @@
 -- A pair that a unit works on to its end.
-use Rattle.std.proofs.Common.{◌≡◌, ℕ, zero, suc, ◌+◌, ◌-◌, ◌<◌, ◌≤◌, true, false, leb, ◌⊎◌, List, Some, None, Ok, Err, Option, Result, sym, refl, ap, ◌∙◌, subst, inl, inr, arith}
-use Rattle.std.proofs.lemmas.Bool.{cases_Bool, leb-true, leb-false, le-leb, ne_eqb, and_from, cond-true, cond-false}
+use Rattle.std.proofs.Common.{◌≡◌, ℕ, zero, suc, ◌+◌, ◌-◌, ◌<◌, ◌≤◌, true, false, ◌⊎◌, List, Some, None, Ok, Option, Result, sym, refl, ap, ◌∙◌, subst, inl, inr, arith}
+use Rattle.std.proofs.lemmas.Bool.{cases_Bool, leb-true, leb-false}
 use Rattle.rule.specs.Pairs.{order_of, start_of}
 use Rattle.rule.specs.Rule.{after, Need}
 use Rattle.rule.specs.Whole.{is_zero, whole}
@@ -12,12 +12,12 @@ use Rattle.engine.specs.declared.engine.Engine as Engine
 use Rattle.follower.specs.declared.follower.Follower as Follower
 use Rattle.frame.specs.Frames.{frame_of}
 use Rattle.reduction.specs.Results.{state_at}
-use Rattle.unit.specs.Answers.{LoadAnswer, WorksOn, WorkAnswer, worked_to, CollectsLeft, CollectsFrom, CollectAnswer, clear_answer}
+use Rattle.unit.specs.Answers.{LoadAnswer, WorksOn, WorkAnswer, worked_to, CollectsLeft, CollectsFrom, CollectAnswer}
 use Rattle.unit.specs.Calls.{place, Loads, Works, Collects, Clears}
 use Rattle.unit.specs.Standing.{Standing, standing_at, empty, holds}
 use Rattle.unit.specs.declared.unit.Unit.{Unit as AnyUnit}
 use Rattle.unit.specs.declared.unit.Worked.{Worked}
-use Rattle.unit.proofs.Works.{left_some, ok_err}
+use Rattle.unit.proofs.Works.{left_some}
 use Rattle.session.specs.Reduces.{FrameRefused, FrameReduced, ReducesBy, ReducesFrame}
 use Rattle.session.proofs.Laws.{worked_is}
 
@@ -72,14 +72,6 @@ module _ {E F : Type 0} {e : Engine.Ghosts E} {f : Follower.Ghosts F} (frame : L
     some_left : (r : Result Worked Fault) (w : WorksOn h.pair h.done u.stint budget r) → 0 < w.left
     some_left r w = left_some h.pair h.done w.left w.need h.going
 
-    pub work_taken : (r : Fault) → Works u budget (Err r) u' → ⊥
-    work_taken r works =
-        let w = works_there (Err r) works in
-        let ranged = u.ranged.0 in
-        let within = and_from (leb 1 budget) (leb budget u.stint) (le-leb 1 budget (omega arith)) (le-leb budget u.stint (omega arith)) in
-        let some = ne_eqb w.left 0 (λ e. omega (arith, some_left (Err r) w)) in
-        ok_err (sym (w.answer ∙ cond-false _ _ _ some ∙ cond-true _ _ _ within))
-
     pub pending_more : (w : Worked) → w.over ≡ false → Works u budget (Ok w) u' → Pending frame n u' × (225 - steps (place u') < 225 - steps (place u))
     pending_more w over works =
         let p = h.pair in
@@ -111,10 +103,7 @@ module _ {E F : Type 0} {e : Engine.Ghosts E} {f : Follower.Ghosts F} (frame : L
           stint = works.1.stint ∙ h.stint;
         }
 
-  -- ---- the end
-  pub clear_taken : (n : ℕ) (x : Fault) → Over frame n u → Clears u (Err x) u' → ⊥
-  clear_taken n x o h = ok_err (sym (h.0 ∙ ap clear_answer o.there))
-
+-- ---- the end
 collected : (p : AdmittedPair) (need left : ℕ) (before after : List ℕ) (r : Result ℕ Fault) → need + left ≡ need → CollectsLeft left p need before r after → CollectsLeft 0 p need before r after
 collected p need zero before after r e h = h
 collected p need (suc left) before after r e h = absurd (omega arith)
@@ -142,12 +131,6 @@ module _ {E F : Type 0} {e : Engine.Ghosts E} {f : Follower.Ghosts F} (u u' : An
   -- ---- all of it, on an empty unit
   reduces : u.pair ≡ None → u'.pair ≡ None → u'.stint ≡ u.stint → FrameRefused e.largest frame before r after ⊎ FrameReduced e.largest frame before r after → ReducesFrame u frame before r after u'
   reduces none pair stint h = subst (λ o. ReducesBy o u frame before r after u') (sym none) (pair, stint, h)
-
-  pub reduces_refused : u.pair ≡ None → (x : Fault) → r ≡ Err x → after ≡ before → Loads u frame (Err x) u' → ReducesFrame u frame before r after u'
-  reduces_refused none x answer kept h =
-      let there = empty_there u.pair _ none in
-      let d = subst (λ s. LoadAnswer e.largest s frame (Err x)) there h.0 in
-      reduces none (none_there u'.pair _ (h.1.standing ∙ there)) h.1.stint (inl (record { why = x; objection = d; answer = answer; kept = kept }))
 
 pub reduces_cleared : {E F : Type 0} {e : Engine.Ghosts E} {f : Follower.Ghosts F} (u v u' : AnyUnit E F e f) (frame before after : List ℕ) (r : Result ℕ Fault) (n : ℕ) (o : Unit {0}) → u.pair ≡ None → n ≡ u.stint → Over frame n v → Collects v before r after → Clears v (Ok o) u' → ReducesFrame u frame before r after u'
 reduces_cleared u v u' frame before after r n o none stint over collects clears =

@@ -121,9 +121,6 @@ pub record Comes {T : Type 0} (first : AdmittedPair → T) (turns : T → Comman
   pub along : (p : AdmittedPair) (k : ℕ) → Along first turns p k c.engine c.table → Along first turns p (k + done) d.engine d.table
 
 module _ {T : Type 0} {first : AdmittedPair → T} {turns : T → Command → T} where
-  pub comes_none : (c : Contents T) → Comes first turns c c 0
-  comes_none c = record { pair = refl; stint = refl; count = omega arith; along = λ p k a. subst (λ (j : ℕ). Along first turns p j c.engine c.table) (omega arith) a }
-
   pub comes_more : (c d : Contents T) (done : ℕ) (m : Meaning) (t : T) (x : Command) → Comes first turns c d done → Advances d.engine (Ok x) m → t ≡ turns d.table x → Comes first turns c (record { pair = d.pair; stint = d.stint; engine = m; table = t }) (done + 1)
   comes_more c d done m t x h a g = record {
     pair = h.pair;

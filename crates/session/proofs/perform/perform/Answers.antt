@@ -1,9 +1,7 @@
-use Rattle.std.proofs.Common.{◌≡◌, List, [], ◌∷◌, ◌++◌, None, vec_items, sym, refl, ap, ◌∙◌, subst, append_assoc, append-nil, arith, rules}
-use Rattle.std.proofs.lemmas.List.{nil_from_length}
+use Rattle.std.proofs.Common.{List, [], ◌∷◌, ◌++◌, vec_items, sym, refl, ap, ◌∙◌, append_assoc, arith, rules}
 use Rattle.std.specs.Vec.Iter.{into_iter_items}
 use Rattle.unit.specs.Calls.{contents}
 use Rattle.unit.proofs.Places.{stands_in}
-use Rattle.session.specs.Performs.{Performed}
 use Rattle.session.specs.declared.call.Call.{Call}
 use Rattle.session.proofs.Laws.{performed_none, performed_more}
 use Rattle.session.proofs.perform.perform.Goals as goal
@@ -20,12 +18,3 @@ loop-call-preserved g c =
       omega (arith, i.3, c.in-Some.ensures.steps.1, c.push_reserved.ensures.len, c.push_reserved.ensures.capacity),
       λ e. performed_more c.args.unit.now c.loop-call.unit c.answer.new.unit c.loop-call.yielded (vec_items c.loop-call.answers) _ c.in-Some.call c.answer.result c.push_reserved.ensures.items (i.4 e) c.answer.ensures (stands_in (contents c.answer.new.unit) c.answer.new.unit.placed),
     )
-
-pub returns : goal.returns
-returns g c =
-    let empty : c.args.unit.now.pair ≡ None = search rules in
-    let i = c.loop-call.invariant in
-    let rest = c.loop-call.call-iterator.rest in
-    let none = nil_from_length rest.items (sym rest.ok.0 ∙ c.in-None.ensures.steps.0) in
-    let all = sym (append-nil c.loop-call.yielded) ∙ ap (λ (l : List Call). c.loop-call.yielded ++ l) (sym none) ∙ i.2 ∙ c.into_iter-call-iterator.ensures.into_iter_gives.0 in
-    (empty, omega (arith, c.if-capacity-len.false, c.len.ensures, c.capacity.ensures, c.args.calls.ok.0), subst (λ (l : List Call). Performed c.args.unit.now l (vec_items c.loop-call.answers) c.loop-call.unit) all (i.4 empty))

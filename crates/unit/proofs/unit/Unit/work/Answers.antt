@@ -1,7 +1,7 @@
 use Rattle.std.proofs.Common.{◌≡◌, true, leb, sym, refl, ◌∙◌, subst, inl, inr, arith}
 use Rattle.std.proofs.lemmas.Bool.{lt-leb, and_left, and_right}
 use Rattle.unit.specs.Calls.{contents}
-use Rattle.unit.proofs.Works.{there_is, never_refused, never_over, placed_more, Comes, comes_none, comes_more, works_over, works_refused, works}
+use Rattle.unit.proofs.Works.{there_is, never_refused, never_over, placed_more, Comes, comes_more, works_over, works_refused, works}
 use Rattle.unit.proofs.unit.Unit.work.Goals as goal
 use Rattle.unit.proofs.unit.Unit.work.Goals.{then-budget-eq0-via-then-budget-eq0, then-budget-eq0-via-else-budget-eq0+then-budget-self}
 
@@ -18,9 +18,6 @@ returns-then-budget-eq0 g c =
       | then-budget-eq0-via-then-budget-eq0 w ↦ and_left (leb 1 c.args.budget) (leb c.args.budget u.stint) (lt-leb 1 c.args.budget (omega (arith, w.if-budget-eq0.true)))
       | then-budget-eq0-via-else-budget-eq0+then-budget-self w ↦ and_right (leb 1 c.args.budget) (leb c.args.budget u.stint) (lt-leb c.args.budget u.stint (omega (arith, w.if-budget-self.true)))
     ])
-
-pub loop-done-init : goal.loop-done-init
-loop-done-init g c = comes_none (contents c.args.self.now)
 
 pub returns-then-is_over-2 : goal.returns-then-is_over-2
 returns-then-is_over-2 g c =

@@ -1,14 +1,16 @@
 -- What one call makes of a history.
-use Rattle.std.proofs.Common.{◌≡◌, ℕ, List, length, Some, None, Ok, Err, vec_items, Option, Result, Vec, sym, refl, subst, arith}
+use Rattle.std.proofs.Common.{◌≡◌, ℕ, List, length, Some, None, Ok, Err, vec_items, Option, Result, Vec, sym, refl, ap, ◌∙◌, subst, arith}
 use Rattle.std.proofs.lemmas.List.{with_items_is}
 use Rattle.std.specs.Vec.{with_items}
 use Rattle.std.specs.declared.alloc.Global.{Global}
 use Rattle.rule.specs.declared.fault.Fault.{Fault}
 use Rattle.rule.specs.declared.pair.AdmittedPair.{AdmittedPair}
 use Rattle.unit.specs.Answers.{LoadAnswer, loaded_to, worked_to, CollectAnswer, clear_answer}
-use Rattle.unit.specs.Calls.{Loads, Stints, Works, Collects, Clears}
-use Rattle.reduction.specs.Followers.{Tables, first_tables, next_tables}
-use Rattle.unit.specs.Standing.{Contents, Standing, empty, Stands}
+use Rattle.engine.specs.declared.engine.Engine as Engine
+use Rattle.follower.specs.declared.follower.Follower as Follower
+use Rattle.unit.specs.Calls.{place, Loads, Stints, Works, Collects, Clears}
+use Rattle.unit.specs.Standing.{empty}
+use Rattle.unit.specs.declared.unit.Unit.{Unit as AnyUnit}
 use Rattle.unit.specs.declared.unit.Worked.{Worked}
 use Rattle.session.specs.History.{load, stint, work, collect, clear, Held, held_after, standing}
 use Rattle.session.specs.Performs.{Happened}
@@ -33,38 +35,31 @@ cleared_to None (Err f) e = refl
 cleared_to (Some h) (Err f) e = absurd (let z : ◌≡◌ {A = ℕ} 0 1 = cc in omega arith)
 
 -- ---- each call
-module _ (largest : ℕ) (o : Option Held) (c c' : Contents Tables) (call : Call) (stands : Stands first_tables next_tables (standing o) c) where
-  stood : {s s' : Standing} → s ≡ s' → Stands first_tables next_tables s c' → Stands first_tables next_tables s' c'
-  stood e h = subst (λ s. Stands first_tables next_tables s c') e h
+module _ {E F : Type 0} {e : Engine.Ghosts E} {f : Follower.Ghosts F} (u u' : AnyUnit E F e f) (call : Call) where
+  pub load_happened : (frame : Vec ℕ Global) (bytes : List ℕ) (r : Result AdmittedPair Fault) → call ≡ Load frame → bytes ≡ vec_items frame → Loads u bytes r u' → Happened u call (Loaded r) u'
+  load_happened frame bytes r i b h =
+      record { event = load frame r; of_call = sym i; of_answer = refl; answered = subst (λ x. LoadAnswer e.largest (place u) x r) b h.0; left = λ o s. h.1.standing ∙ ap (λ x. loaded_to x r) s ∙ loaded_to_lem frame o r; stint = h.1.stint }
 
-  pub load_happened : (frame : Vec ℕ Global) (bytes : List ℕ) (r : Result AdmittedPair Fault) → call ≡ Load frame → bytes ≡ vec_items frame → Loads first_tables next_tables largest c bytes r c' → Happened largest o c call (Loaded r) c'
-  load_happened frame bytes r e b h =
-      let d = h (standing o) stands in
-      record { event = load frame r; of_call = sym e; of_answer = refl; answered = subst (λ x. LoadAnswer largest (standing o) x r) b d.0; stands = stood (loaded_to_lem frame o r) d.1.stands; stint = d.1.stint }
+  pub stint_happened : (most : ℕ) (r : Result (Unit {0}) Fault) → call ≡ Stint most → Stints u most r u' → Happened u call (Stinted r) u'
+  stint_happened most r i h =
+      record { event = stint most r; of_call = sym i; of_answer = refl; answered = h.0; left = λ o s. h.1.standing ∙ s; stint = h.1.stint }
 
-  pub stint_happened : (most : ℕ) (r : Result (Unit {0}) Fault) → call ≡ Stint most → Stints first_tables next_tables c most r c' → Happened largest o c call (Stinted r) c'
-  stint_happened most r e h =
-      let d = h (standing o) stands in
-      record { event = stint most r; of_call = sym e; of_answer = refl; answered = d.0; stands = d.1.stands; stint = d.1.stint }
+  pub work_happened : (budget : ℕ) (r : Result Worked Fault) → call ≡ Work budget → Works u budget r u' → Happened u call (WorkedAnswer r) u'
+  work_happened budget r i h =
+      record { event = work budget r; of_call = sym i; of_answer = refl; answered = h.0; left = λ o s. h.1.standing ∙ ap (λ x. worked_to x r) s ∙ worked_to_lem budget o r; stint = h.1.stint }
 
-  pub work_happened : (budget : ℕ) (r : Result Worked Fault) → call ≡ Work budget → Works first_tables next_tables c budget r c' → Happened largest o c call (WorkedAnswer r) c'
-  work_happened budget r e h =
-      let d = h (standing o) stands in
-      record { event = work budget r; of_call = sym e; of_answer = refl; answered = d.0; stands = stood (worked_to_lem budget o r) d.1.stands; stint = d.1.stint }
+  pub clear_happened : (r : Result (Unit {0}) Fault) → call ≡ Clear → Clears u r u' → Happened u call (Cleared r) u'
+  clear_happened r i h =
+      record { event = clear r; of_call = sym i; of_answer = refl; answered = h.0; left = λ o s. h.1.standing ∙ cleared_to o r (h.0 ∙ ap clear_answer s); stint = h.1.stint }
 
-  pub clear_happened : (r : Result (Unit {0}) Fault) → call ≡ Clear → Clears first_tables next_tables c r c' → Happened largest o c call (Cleared r) c'
-  clear_happened r e h =
-      let d = h (standing o) stands in
-      record { event = clear r; of_call = sym e; of_answer = refl; answered = d.0; stands = stood (cleared_to o r d.0) d.1.stands; stint = d.1.stint }
-
-pub collect_happened : (largest : ℕ) (o : Option Held) (c : Contents Tables) (call : Call) → Stands first_tables next_tables (standing o) c → (buffer : Vec ℕ Global) (before after : List ℕ) (r : Result ℕ Fault) → call ≡ Collect buffer → before ≡ vec_items buffer → length after ≡ buffer.len → Collects first_tables next_tables c before r after → Happened largest o c call (Collected r (with_items buffer after)) c
-collect_happened largest o c call stands buffer before after r e b l h =
+pub collect_happened : {E F : Type 0} {e : Engine.Ghosts E} {f : Follower.Ghosts F} (u : AnyUnit E F e f) (call : Call) (buffer : Vec ℕ Global) (before after : List ℕ) (r : Result ℕ Fault) → call ≡ Collect buffer → before ≡ vec_items buffer → length after ≡ buffer.len → Collects u before r after → Happened u call (Collected r (with_items buffer after)) u
+collect_happened u call buffer before after r i b l h =
     let filled = with_items_is buffer after l in
     record {
       event = collect buffer r (with_items buffer after);
-      of_call = sym e;
+      of_call = sym i;
       of_answer = refl;
-      answered = subst (λ x. CollectAnswer (standing o) x r (vec_items (with_items buffer after))) b (subst (CollectAnswer (standing o) before r) (sym filled) (h (standing o) stands));
-      stands = stands;
+      answered = subst (λ x. CollectAnswer (place u) x r (vec_items (with_items buffer after))) b (subst (CollectAnswer (place u) before r) (sym filled) h);
+      left = λ o s. s;
       stint = refl;
     }

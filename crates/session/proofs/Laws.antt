@@ -1,6 +1,7 @@
 -- The law, from the answers of all calls.
 use Rattle.std.proofs.Common.{◌≡◌, ℕ, zero, suc, ◌+◌, ◌-◌, min, Bool, true, false, cond, ◌&&◌, eqb, leb, List, [], ◌∷◌, ◌++◌, map, reverse, Some, None, Ok, Err, Option, Result, sym, refl, ap, ◌∙◌, subst, ap₂, inl, inr, arith}
 use Rattle.std.proofs.lemmas.List.{map_push, reverse-append}
+use Rattle.std.proofs.lemmas.Option.{none-some, same_Some}
 use Rattle.std.proofs.lemmas.Bool.{cases_Bool, leb-true, leb-false, eq-eqb, ne_eqb, le-leb, cond-true}
 use Rattle.std.proofs.lemmas.Option.{none-some, same_Some}
 use Rattle.rule.specs.Pairs.{order_of, start_of}
@@ -17,11 +18,16 @@ use Rattle.frame.specs.declared.reduction.Reduction.{Reduction}
 use Rattle.frame.proofs.RoundTrips.{pair_read_back}
 use Rattle.unit.specs.Answers.{refusal, load_objection, work_answer, WorkAnswer, CollectsLeft, WritesIfRoom}
 use Rattle.reduction.specs.Results.{ResultOf, RightResult}
-use Rattle.reduction.specs.Followers.{Tables}
-use Rattle.unit.specs.Standing.{Contents, empty}
+use Rattle.engine.specs.declared.engine.Engine as Engine
+use Rattle.follower.specs.declared.follower.Follower as Follower
+use Rattle.unit.specs.Calls.{contents, place}
+use Rattle.unit.specs.Standing.{empty, Stands}
+use Rattle.unit.specs.declared.unit.Unit.{Unit as AnyUnit}
+use Rattle.unit.proofs.Places.{stands_there}
+use Rattle.unit.proofs.Works.{ok_err}
 use Rattle.unit.specs.declared.unit.Worked.{Worked}
 use Rattle.session.specs.History.{Event, load, stint, work, collect, clear, call_of, answer_of, Held, sum_of, worked_more, held_in, stint_after, stint_in, standing}
-use Rattle.session.specs.Performs.{Happens, Performed}
+use Rattle.session.specs.Performs.{Happened, Performed}
 use Rattle.session.specs.declared.call.Answer.{Answer}
 use Rattle.session.specs.declared.call.Call.{Call}
 use Rattle.session.specs.Law.{Answered, AllAnswered, TakesAll, Counted, CollectedRight, CollectLaw, Lawful, Throughout}
@@ -31,9 +37,6 @@ ok_same e = cc
 
 err_same : {X Y : Type 0} {x y : Y} → ◌≡◌ {A = Result X Y} (Err x) (Err y) → x ≡ y
 err_same e = cc
-
-pub ok_err : {X Y : Type 0} {x : X} {y : Y} → ◌≡◌ {A = Result X Y} (Ok x) (Err y) → ⊥
-ok_err e = let z : ◌≡◌ {A = ℕ} 0 1 = cc in omega arith
 
 -- ---- an empty unit takes every pair
 pub takes_all : (largest : ℕ) → TakesAll largest empty
@@ -125,21 +128,22 @@ answered_so_far largest n [] t = tt
 answered_so_far largest n (e ∷ h) t = t.0.answered
 
 -- ---- one call more
-pub performed_none : (largest : ℕ) (c : Contents Tables) (answers : List Answer) → c.pair ≡ None → answers ≡ [] → Performed largest c [] answers c
-performed_none largest c answers e none = record { history = []; of_calls = refl; of_answers = sym none; lawful = throughout largest c.stint [] tt; stands = e; stint = refl }
-
 map-reverse_more : {X : Type 0} (f : Event → X) (e : Event) (h : List Event) → map f (reverse (e ∷ h)) ≡ map f (reverse h) ++ f e ∷ []
 map-reverse_more f e h = ap (map f) (reverse-append (e ∷ []) h) ∙ map_push f (reverse h) e
 
-pub performed_more : (largest : ℕ) (c c' c'' : Contents Tables) (calls : List Call) (answers answers' : List Answer) (call : Call) (answer : Answer) → answers' ≡ answers ++ answer ∷ [] → Performed largest c calls answers c' → Happens largest c' call answer c'' → Performed largest c (calls ++ call ∷ []) answers' c''
-performed_more largest c c' c'' calls answers answers' call answer more g happens =
-    let w = happens (held_in g.history) g.stands in
-    let e = w.event in
-    record {
-      history = e ∷ g.history;
-      of_calls = map-reverse_more call_of e g.history ∙ ap₂ (λ (xs : List Call) (x : Call). xs ++ x ∷ []) g.of_calls w.of_call;
-      of_answers = map-reverse_more answer_of e g.history ∙ ap₂ (λ (xs : List Answer) (x : Answer). xs ++ x ∷ []) g.of_answers w.of_answer ∙ sym more;
-      lawful = throughout largest c.stint (e ∷ g.history) (subst (λ (n : ℕ). Answered largest (standing (held_in g.history)) n e) g.stint w.answered, answered_so_far largest c.stint g.history g.lawful);
-      stands = w.stands;
-      stint = w.stint ∙ ap (stint_after e) g.stint;
-    }
+module _ {E F : Type 0} {e : Engine.Ghosts E} {f : Follower.Ghosts F} where
+  pub performed_none : (u : AnyUnit E F e f) (answers : List Answer) → u.pair ≡ None → answers ≡ [] → Performed u [] answers u
+  performed_none u answers pair none = record { history = []; of_calls = refl; of_answers = sym none; lawful = throughout e.largest u.stint [] tt; stands = pair; stint = refl }
+
+  pub performed_more : (u v w : AnyUnit E F e f) (calls : List Call) (answers answers' : List Answer) (call : Call) (answer : Answer) → answers' ≡ answers ++ answer ∷ [] → Performed u calls answers v → Happened v call answer w → Stands f.first f.turns (place w) (contents w) → Performed u (calls ++ call ∷ []) answers' w
+  performed_more u v w calls answers answers' call answer more g h stands =
+      let there = stands_there f.first f.turns (standing (held_in g.history)) (contents v) g.stands in
+      let answered = subst (λ s. Answered e.largest s v.stint h.event) (sym there) h.answered in
+      record {
+        history = h.event ∷ g.history;
+        of_calls = map-reverse_more call_of h.event g.history ∙ ap₂ (λ (xs : List Call) (x : Call). xs ++ x ∷ []) g.of_calls h.of_call;
+        of_answers = map-reverse_more answer_of h.event g.history ∙ ap₂ (λ (xs : List Answer) (x : Answer). xs ++ x ∷ []) g.of_answers h.of_answer ∙ sym more;
+        lawful = throughout e.largest u.stint (h.event ∷ g.history) (subst (λ (n : ℕ). Answered e.largest (standing (held_in g.history)) n h.event) g.stint answered, answered_so_far e.largest u.stint g.history g.lawful);
+        stands = subst (λ s. Stands f.first f.turns s (contents w)) (h.left (held_in g.history) (sym there)) stands;
+        stint = h.stint ∙ ap (stint_after h.event) g.stint;
+      }

@@ -10,10 +10,12 @@ use Rattle.frame.specs.Frames.{frame_of}
 use Rattle.frame.specs.Reading.{reading}
 use Rattle.frame.specs.Results.{result_frame}
 use Rattle.frame.specs.declared.reduction.Reduction.{Reduction}
+use Rattle.engine.specs.declared.engine.Engine as Engine
+use Rattle.follower.specs.declared.follower.Follower as Follower
 use Rattle.unit.specs.Answers.{refusal, load_objection, WritesIfRoom}
-use Rattle.reduction.specs.Followers.{Tables}
+use Rattle.unit.specs.Calls.{contents}
 use Rattle.reduction.specs.Results.{ResultOf, RightResult}
-use Rattle.unit.specs.Standing.{Contents}
+use Rattle.unit.specs.declared.unit.Unit.{Unit as AnyUnit}
 
 -- There is something against the frame, and so it is refused and nothing is written.
 pub record FrameRefused (largest : ℕ) (frame before : List ℕ) (r : Result ℕ Fault) (after : List ℕ) : Type 0 where
@@ -36,10 +38,10 @@ pub record FrameReduced (largest : ℕ) (frame before : List ℕ) (r : Result �
   pub writes : WritesIfRoom (result_frame result) before r after
 
 -- By what the unit held before: nothing, and then it holds nothing again; or a pair, which is left alone.
-abbrev pub ReducesBy : ℕ → Option AdmittedPair → Contents Tables → List ℕ → List ℕ → Result ℕ Fault → List ℕ → Contents Tables → Type 0
-ReducesBy largest None c frame before r after c' = (c'.pair ≡ None) × (c'.stint ≡ c.stint) × (FrameRefused largest frame before r after ⊎ FrameReduced largest frame before r after)
-ReducesBy largest (Some p) c frame before r after c' = (r ≡ refusal PairHeld) × (after ≡ before) × (c' ≡ c)
+abbrev pub ReducesBy : {E F : Type 0} {e : Engine.Ghosts E} {f : Follower.Ghosts F} → Option AdmittedPair → AnyUnit E F e f → List ℕ → List ℕ → Result ℕ Fault → List ℕ → AnyUnit E F e f → Type 0
+ReducesBy {e} None u frame before r after u' = (u'.pair ≡ None) × (u'.stint ≡ u.stint) × (FrameRefused e.largest frame before r after ⊎ FrameReduced e.largest frame before r after)
+ReducesBy (Some p) u frame before r after u' = (r ≡ refusal PairHeld) × (after ≡ before) × (contents u' ≡ contents u)
 
--- What the reduction of a frame on a unit with contents c gives and leaves.
-abbrev pub ReducesFrame : ℕ → Contents Tables → List ℕ → List ℕ → Result ℕ Fault → List ℕ → Contents Tables → Type 0
-ReducesFrame largest c frame before r after c' = ReducesBy largest c.pair c frame before r after c'
+-- What the reduction of a frame on a unit gives and leaves.
+abbrev pub ReducesFrame : {E F : Type 0} {e : Engine.Ghosts E} {f : Follower.Ghosts F} → AnyUnit E F e f → List ℕ → List ℕ → Result ℕ Fault → List ℕ → AnyUnit E F e f → Type 0
+ReducesFrame u frame before r after u' = ReducesBy u.pair u frame before r after u'

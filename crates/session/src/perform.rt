@@ -1,8 +1,6 @@
 // A list of calls, performed in order on an empty unit; its contract is the law over every such list (docs/UNIT.md).
-ghost use Rattle.reduction.specs.Followers.{tables_of};
-ghost use Rattle.unit.specs.Standing.{contents};
 ghost use Rattle.std.specs.Prelude.{vec_capacity};
-ghost use Rattle.session.specs.Performs.{Happens, Performs};
+ghost use Rattle.session.specs.Performs.{Happened, Performs};
 
 use crate::call::{Answer, Call};
 use engine::engine::Engine;
@@ -17,7 +15,7 @@ pub enum Unperformed {
 
 // One call, performed.
 fn answer<E: Engine>(unit: &mut Unit<E, Followers>, call: Call) -> Answer
-    ensures { Happens E.largest (contents E.meaning tables_of unit.old) call result (contents E.meaning tables_of unit.new) }
+    ensures { Happened unit.old call result unit.new }
 {
     match call {
         Call::Load(frame) => Answer::Loaded(unit.load(frame.as_slice())),
@@ -38,7 +36,7 @@ pub fn perform<E: Engine>(
     calls: Vec<Call>,
     room: Vec<Answer>,
 ) -> Result<Vec<Answer>, Unperformed>
-    ensures { Performs E.largest (contents E.meaning tables_of unit.old) calls.items (vec_capacity room) result (contents E.meaning tables_of unit.new) }
+    ensures { Performs unit.old calls.items (vec_capacity room) result unit.new }
 {
     if !unit.is_empty() {
         return Err(Unperformed::PairHeld);

@@ -1,6 +1,4 @@
 // One frame through a unit, from load to clear.
-ghost use Rattle.reduction.specs.Followers.{tables_of};
-ghost use Rattle.unit.specs.Standing.{contents};
 ghost use Rattle.session.specs.Reduces.{ReducesFrame};
 
 use engine::engine::Engine;
@@ -14,10 +12,10 @@ pub fn reduce_frame<E: Engine>(
     frame: &[u8],
     buffer: &mut [u8],
 ) -> Result<usize, Fault>
-    ensures { ReducesFrame E.largest (contents E.meaning tables_of unit.old) frame.now buffer.old result buffer.new (contents E.meaning tables_of unit.new) }
+    ensures { ReducesFrame unit.old frame.now buffer.old result buffer.new unit.new }
 {
     if !unit.is_empty() {
-        return Err(Fault::new(Reason::PairHeld, Layer::Unit, 0));
+        return Err(Reason::PairHeld.by(Layer::Unit));
     }
     unit.load(frame)?;
     while !unit.work(unit.most())?.over {}

@@ -10,10 +10,12 @@ use Rattle.rule.specs.declared.pair.AdmittedPair.{AdmittedPair}
 use Rattle.frame.specs.Results.{result_frame}
 use Rattle.frame.specs.Writing.{Writes}
 use Rattle.frame.specs.declared.reduction.Reduction.{Reduction}
+use Rattle.engine.specs.Meaning.{count_of}
 use Rattle.unit.specs.Answers.{refusal, WritesIfRoom, CollectsFrom, CollectAnswer}
 use Rattle.reduction.specs.Followers.{Tables, first_tables, next_tables}
 use Rattle.reduction.specs.Results.{Along, ReadsOut}
-use Rattle.unit.specs.Standing.{Contents, Standing, empty, holds, Stands}
+use Rattle.unit.specs.Standing.{Contents, standing_at, standing_of, Stands, Placed}
+use Rattle.unit.proofs.Places.{stands_in}
 use Rattle.unit.proofs.Works.{left_of, left_some}
 
 -- a buffer keeps its length, so that what was written had room in it
@@ -36,9 +38,9 @@ collects_from p k None before after r running z w = by (left_of p k running).0 (
     by zero n = absurd (omega (arith, left_some p k 0 n z))
     by (suc left) n = record { left = suc left; need = n; answer = w }
 
-pub collects : (s : Standing) (c : Contents Tables) (q : AdmittedPair) (o : Option Reduction) (before after : List ℕ) (r : Result ℕ Fault) → c.pair ≡ Some q → ((k : ℕ) → Along first_tables next_tables q k c.engine c.table → ReadsOut q k o) → Written o before r after → Stands first_tables next_tables s c → CollectAnswer s before r after
-collects empty c q o before after r e reads written stands = absurd (none-some _ (sym stands ∙ e))
-collects (holds p k) c q o before after r e reads written stands =
-    let same = same_Some _ _ (sym e ∙ stands.pair) in
-    let all = subst (λ x. (k : ℕ) → Along first_tables next_tables x k c.engine c.table → ReadsOut x k o) same reads in
-    collects_from p k o before after r stands.along.running (all k stands.along) written
+pub collects : (c : Contents Tables) (p : AdmittedPair) (o : Option Reduction) (before after : List ℕ) (r : Result ℕ Fault) → c.pair ≡ Some p → Placed first_tables next_tables c.pair c.engine c.table → ((k : ℕ) → Along first_tables next_tables p k c.engine c.table → ReadsOut p k o) → Written o before r after → CollectAnswer (standing_of c) before r after
+collects c p o before after r some placed reads written =
+    let k = count_of c.engine in
+    let there = sym (ap (λ o. standing_at o k) some) in
+    let a = (subst (λ s. Stands first_tables next_tables s c) (sym there) (stands_in c placed)).along in
+    subst (λ s. CollectAnswer s before r after) there (collects_from p k o before after r a.running (reads k a) written)

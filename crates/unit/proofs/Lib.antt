@@ -1,3 +1,4 @@
+pub mod Places
 pub mod Works
 pub mod Loads
 pub mod Collects

@@ -1,5 +1,6 @@
 -- A run in pieces: its start, one command more, and what a work answers.
-use Rattle.std.proofs.Common.{◌≡◌, ℕ, zero, suc, ◌+◌, ◌-◌, ◌<◌, ◌≤◌, min, Bool, true, false, ◌&&◌, leb, ◌⊎◌, ℤ, None, Ok, Err, Result, sym, refl, ap, ◌∙◌, subst, ap₂, inl, inr, arith}
+use Rattle.std.proofs.Common.{◌≡◌, ℕ, zero, suc, ◌+◌, ◌-◌, ◌<◌, ◌≤◌, min, Bool, true, false, ◌&&◌, leb, ◌⊎◌, ℤ, is_some, Some, None, Ok, Err, Option, Result, sym, refl, ap, ◌∙◌, subst, ap₂, inl, inr, arith}
+use mathlib.Core.Logic.{∥∥₁_elim, ∥∥₁_map}
 use Rattle.std.proofs.lemmas.Bool.{true≢false, both_ways, cases_Bool, le-leb, lt-leb, ne_eqb, and_from, cond-true, cond-false}
 use Rattle.rule.specs.Pairs.{order_of, start_of}
 use Rattle.rule.specs.Refusal.{fault}
@@ -8,18 +9,22 @@ use Rattle.rule.specs.Whole.{is_zero, whole}
 use Rattle.rule.specs.declared.command.Command.{Command}
 use Rattle.rule.specs.declared.fault.Fault.{Fault}
 use Rattle.rule.specs.declared.fault.Layer.TheVariants.{Unit as UnitLayer}
-use Rattle.rule.specs.declared.fault.Reason.TheVariants.{BudgetOutOfRange}
+use Rattle.rule.specs.declared.fault.Reason.TheVariants.{BudgetOutOfRange, RunOver}
 use Rattle.rule.specs.declared.pair.AdmittedPair.{AdmittedPair}
-use Rattle.rule.proofs.Fuel.{after_more, told_more, running_more, need_above, need_unique}
+use Rattle.rule.proofs.Fuel.{count_next, after_more, told_more, running_more, need_above, need_unique}
 use Rattle.rule.proofs.Whole.{need_bounded}
-use Rattle.engine.specs.Meaning.{Meaning, held, is_over, Advances}
+use Rattle.engine.specs.Meaning.{Meaning, idle, held, is_over, count_of, Advances}
 use Rattle.follower.specs.Following.{turned, Followed, Follows}
 use Rattle.follower.specs.FollowingLemmas.{turned_more}
-use Rattle.unit.specs.Answers.{refusal, work_answer, WorksOn}
-use Rattle.unit.specs.Calls.{Works}
+use Rattle.engine.specs.declared.engine.Engine as Engine
+use Rattle.follower.specs.declared.follower.Follower as Follower
 use Rattle.reduction.specs.Results.{state_at, Along}
-use Rattle.unit.specs.Standing.{Contents, empty, holds, Holds}
+use Rattle.unit.specs.Answers.{refusal, work_answer, WorksOn, WorkAnswer, worked_to}
+use Rattle.unit.specs.Calls.{contents, place, Works}
+use Rattle.unit.specs.Standing.{Contents, Standing, standing_at, empty, holds, Stands, Placed}
+use Rattle.unit.specs.declared.unit.Unit.{Unit as AnyUnit}
 use Rattle.unit.specs.declared.unit.Worked.{Worked}
+use Rattle.unit.proofs.Places.{reached}
 
 -- ---- what is left of a run
 -- the commands left after k, none of which came after the end
@@ -44,8 +49,8 @@ module _ {T : Type 0} (first : AdmittedPair → T) (turns : T → Command → T)
   advanced p k m m' t c a h = subst (λ x. Advances x (Ok c) m') a.engine h
 
   -- the command that the engine tells is taken
-  pub along_takes : (p : AdmittedPair) (k : ℕ) (m m' : Meaning) (t t' : T) (c : Command) (f : Fault) (accepts : T → Command → Bool) (relation : AdmittedPair → T → State ℤ → Type 0) → Follows first accepts turns relation → Along first turns p k m t → Advances m (Ok c) m' → Followed accepts turns t c (Err f) t' → ⊥
-  along_takes p k m m' t t' c f accepts relation follows a h g =
+  along_takes : (p : AdmittedPair) (k : ℕ) (m m' : Meaning) (t t' : T) (c : Command) (r : Fault) (accepts : T → Command → Bool) (relation : AdmittedPair → T → State ℤ → Type 0) → Follows first accepts turns relation → Along first turns p k m t → Advances m (Ok c) m' → Followed accepts turns t c (Err r) t' → ⊥
+  along_takes p k m m' t t' c r accepts relation follows a h g =
       let d = advanced p k m m' t c a h in
       both_ways (accepts t c) g.0 (ap₂ accepts a.table d.1 ∙ (follows p k a.running).takes d.0)
 
@@ -91,26 +96,98 @@ over_budget p k stint budget r z e =
     let l = left_of p k r in
     record { left = l.0; need = l.1; answer = sym (cond-false _ _ _ e) ∙ sym (cond-false _ _ _ (ne_eqb l.0 0 (λ n. omega (arith, left_some p k l.0 l.1 z)))) }
 
--- ---- work, on a unit with contents c
-module _ {T : Type 0} (first : AdmittedPair → T) (turns : T → Command → T) (c c' : Contents T) (budget : ℕ) (some : c.pair ≡ None → ⊥) (z : is_over c.engine ≡ false) where
-  going : (p : AdmittedPair) (k : ℕ) → Holds first turns p k c → is_zero (state_at p k).b ≡ false
-  going p k h = sym (ap is_over h.along.engine) ∙ z
+-- ---- work, on a unit
+pub ok_err : {X Y : Type 0} {x : X} {y : Y} → ◌≡◌ {A = Result X Y} (Ok x) (Err y) → ⊥
+ok_err e = let z : ◌≡◌ {A = ℕ} 0 1 = cc in omega arith
 
-  pub works : (w : Worked) → c'.pair ≡ c.pair → c'.stint ≡ c.stint → w.over ≡ is_over c'.engine → w.done ≤ budget → (w.over ≡ true) ⊎ (budget ≤ w.done) → 1 ≤ budget → budget ≤ c.stint
-      → ((p : AdmittedPair) (k : ℕ) → Along first turns p k c.engine c.table → Along first turns p (k + w.done) c'.engine c'.table) → Works first turns c budget (Ok w) c'
-  works w pair stint over most why b s along empty stands = absurd (some stands)
-  works w pair stint over most why b s along (holds p k) stands =
-      let a = along p k stands.along in (
-        works_on p k c.stint budget w stands.along.running (going p k stands) a.running (over ∙ ap is_over a.engine) most why b s,
-        record { stands = record { pair = pair ∙ stands.pair; along = a }; stint = stint; unmoved = λ e. absurd (true≢false e) },
+pub there_is : {X : Type 0} (o : Option X) → is_some o ≡ true → (x : X) × (o ≡ Some x)
+there_is None e = absurd (true≢false (sym e))
+there_is (Some x) e = (x, refl)
+
+refused_stays : (s : Standing) (r : Fault) → worked_to s (Err r) ≡ s
+refused_stays empty r = refl
+refused_stays (holds p k) r = refl
+
+-- an engine that told a command counts one more
+counted : (m m' : Meaning) (c : Command) → Advances m (Ok c) m' → count_of m' ≡ suc (count_of m)
+counted idle m' c h = absurd (ok_err h.0)
+counted (held n s) m' c h = ap count_of h.2 ∙ count_next whole s
+
+-- what a unit with contents c holds after so many commands
+pub record Comes {T : Type 0} (first : AdmittedPair → T) (turns : T → Command → T) (c d : Contents T) (done : ℕ) : Type 0 where
+  pub pair : d.pair ≡ c.pair
+  pub stint : d.stint ≡ c.stint
+  pub count : count_of d.engine ≡ count_of c.engine + done
+  pub along : (p : AdmittedPair) (k : ℕ) → Along first turns p k c.engine c.table → Along first turns p (k + done) d.engine d.table
+
+module _ {T : Type 0} {first : AdmittedPair → T} {turns : T → Command → T} where
+  pub comes_more : (c d : Contents T) (done : ℕ) (m : Meaning) (t : T) (x : Command) → Comes first turns c d done → Advances d.engine (Ok x) m → t ≡ turns d.table x → Comes first turns c (record { pair = d.pair; stint = d.stint; engine = m; table = t }) (done + 1)
+  comes_more c d done m t x h a g = record {
+    pair = h.pair;
+    stint = h.stint;
+    count = omega (arith, counted d.engine m x a, h.count);
+    along = λ p k l. subst (λ (j : ℕ). Along first turns p j m t) (omega arith) (along_more first turns p (k + done) d.engine m d.table t x (h.along p k l) a g);
+  }
+
+module _ {E F : Type 0} {e : Engine.Ghosts E} {f : Follower.Ghosts F} (u : AnyUnit E F e f) where
+  -- the command that the engine tells is taken
+  pub never_refused : (p : AdmittedPair) → u.pair ≡ Some p → (m : Meaning) (t : f.Table) (c : Command) (r : Fault) → Follows f.first f.accepts f.turns f.relation → Advances (e.meaning u.engine) (Ok c) m → Followed f.accepts f.turns (f.table u.followers) c (Err r) t → ⊥
+  never_refused p some m t c r follows a g =
+      ∥∥₁_elim (u.placed p some) (λ x y. absurd x) (λ l. along_takes f.first f.turns p (count_of (e.meaning u.engine)) (e.meaning u.engine) m (f.table u.followers) t c r f.accepts f.relation follows l a g)
+
+  -- so what the type keeps of the unit is so after one command more
+  pub placed_more : (m : Meaning) (t : f.Table) (c : Command) (r : Result (Unit {0}) Fault) → Follows f.first f.accepts f.turns f.relation → Advances (e.meaning u.engine) (Ok c) m → Followed f.accepts f.turns (f.table u.followers) c r t → Placed f.first f.turns u.pair m t
+  placed_more m t c (Ok _) follows a g p some =
+      let n = e.meaning u.engine in
+      ∥∥₁_map (u.placed p some) (λ l. subst (λ (k : ℕ). Along f.first f.turns p k m t) (sym (counted n m c a)) (along_more f.first f.turns p (count_of n) n m (f.table u.followers) t c l a g.1))
+  placed_more m t c (Err r) follows a g p some = absurd (never_refused p some m t c r follows a g)
+
+-- of a unit that holds the pair q.0
+module _ {E F : Type 0} {e : Engine.Ghosts E} {f : Follower.Ghosts F} (u : AnyUnit E F e f) (q : (p : AdmittedPair) × (u.pair ≡ Some p)) where
+  -- the commands of its run that have been done
+  abbrev done_of : ℕ
+  done_of = count_of (e.meaning u.engine)
+
+  place_is : place u ≡ holds q.0 done_of
+  place_is = ap (λ o. standing_at o done_of) q.1
+
+  there : Running whole (start_of q.0) done_of × (e.meaning u.engine ≡ held (order_of q.0) (state_at q.0 done_of))
+  there = reached f.first f.turns q.0 done_of (e.meaning u.engine) (f.table u.followers) (u.placed q.0 q.1)
+
+  over_there : is_over (e.meaning u.engine) ≡ is_zero (state_at q.0 done_of).b
+  over_there = ap is_over there.1
+
+  refused : (budget : ℕ) (r : Fault) → WorksOn q.0 done_of u.stint budget (Err r) → Works u budget (Err r) u
+  refused budget r h = (
+    subst (λ s. WorkAnswer s u.stint budget (Err r)) (sym place_is) h,
+    record { standing = sym (refused_stays (place u) r); stint = refl; unmoved = λ _. refl; stands = subst (λ s. Stands f.first f.turns s (contents u)) (sym (refused_stays (place u) r)) },
+  )
+
+  pub works_over : (budget : ℕ) (r : Fault) → is_over (e.meaning u.engine) ≡ true → r ≡ fault RunOver UnitLayer 0 → Works u budget (Err r) u
+  works_over budget r z i =
+      let n : Need whole (start_of q.0) done_of = record { over = sym over_there ∙ z; before = there.0 } in
+      refused budget r (record { left = 0; need = subst (Need whole (start_of q.0)) (omega arith) n; answer = ap Err i })
+
+  pub works_refused : (budget : ℕ) (r : Fault) → is_over (e.meaning u.engine) ≡ false → r ≡ fault BudgetOutOfRange UnitLayer 0 → (leb 1 budget && leb budget u.stint) ≡ false → Works u budget (Err r) u
+  works_refused budget r z i out = refused budget r (subst (WorksOn q.0 done_of u.stint budget) (ap Err (sym i)) (over_budget q.0 done_of u.stint budget there.0 (sym over_there ∙ z) out))
+
+  -- an engine whose run is not over advances
+  pub never_over : (r : Fault) (m : Meaning) → is_over (e.meaning u.engine) ≡ false → Advances (e.meaning u.engine) (Err r) m → ⊥
+  never_over r m z a = both_ways _ (sym over_there ∙ z) (subst (λ x. Advances x (Err r) m) there.1 a).0
+
+module _ {E F : Type 0} {e : Engine.Ghosts E} {f : Follower.Ghosts F} (u v : AnyUnit E F e f) (budget : ℕ) (q : (p : AdmittedPair) × (u.pair ≡ Some p)) where
+  pub works : (w : Worked) → is_over (e.meaning u.engine) ≡ false → (budget ≡ 0 → ⊥) → budget ≤ u.stint → Comes f.first f.turns (contents u) (contents v) w.done → w.over ≡ is_over (e.meaning v.engine) → w.done ≤ budget → (w.over ≡ true) ⊎ (budget ≤ w.done) → Works u budget (Ok w) v
+  works w z b s h over most why =
+      let p = q.0 in
+      let k = count_of (e.meaning u.engine) in
+      let q' : (p : AdmittedPair) × (v.pair ≡ Some p) = (p, h.pair ∙ q.1) in
+      let running = subst (Running whole (start_of p)) h.count (there v q').0 in
+      let over' = over ∙ over_there v q' ∙ ap (λ (j : ℕ). is_zero (state_at p j).b) h.count in (
+        subst (λ x. WorkAnswer x u.stint budget (Ok w)) (sym (place_is u q)) (works_on p k u.stint budget w (there u q).0 (sym (over_there u q) ∙ z) running over' most why (omega (arith, b)) s),
+        record {
+          standing = place_is v q' ∙ ap (holds p) h.count ∙ ap (λ x. worked_to x (Ok w)) (sym (place_is u q));
+          stint = h.stint;
+          unmoved = λ e. absurd (true≢false e);
+          stands = subst (λ x. Stands f.first f.turns x (contents u) → Stands f.first f.turns (worked_to x (Ok w)) (contents v)) (sym (place_is u q)) (λ l. record { pair = q'.1; along = h.along p k l.along });
+        },
       )
-
-  pub works_refused : (f : Fault) → f ≡ fault BudgetOutOfRange UnitLayer 0 → (leb 1 budget && leb budget c.stint) ≡ false → Works first turns c budget (Err f) c
-  works_refused f e out empty stands = absurd (some stands)
-  works_refused f e out (holds p k) stands =
-      (subst (WorksOn p k c.stint budget) (ap Err (sym e)) (over_budget p k c.stint budget stands.along.running (going p k stands) out), record { stands = stands; stint = refl; unmoved = λ _. refl })
-
-  -- what cannot happen on the run of any pair
-  pub works_never : (r : Result Worked Fault) → ((p : AdmittedPair) (k : ℕ) → Along first turns p k c.engine c.table → ⊥) → Works first turns c budget r c'
-  works_never r never empty stands = absurd (some stands)
-  works_never r never (holds p k) stands = absurd (never p k stands.along)

@@ -1,6 +1,7 @@
 // The reduction unit: it holds one pair at a time, and does its run in as many calls as it takes (docs/UNIT.md). The calls are in
 // the files of unit/.
 ghost use Rattle.std.specs.Prelude.{◌≤◌};
+ghost use Rattle.unit.specs.Standing.{Placed};
 
 use engine::engine::Engine;
 use follower::follower::Follower;
@@ -21,6 +22,7 @@ pub struct Unit<E: Engine, F: Follower> {
     stint: u64,
     pair: Option<AdmittedPair>,
     ghost ranged: { (1 ≤ stint) × (stint ≤ 225) },
+    ghost placed: { Placed F.first F.turns pair (E.meaning engine) (F.table followers) },
 }
 
 // The stint of a new unit, and the largest that can be set.

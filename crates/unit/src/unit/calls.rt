@@ -1,8 +1,6 @@
 // The calls that load a unit, set its stint, read its result and clear it.
 ghost use Rattle.std.specs.Prelude.{◌≡◌, None};
 ghost use Rattle.unit.specs.Calls.{Loads, Stints, Collects, Clears};
-ghost use Rattle.reduction.specs.Followers.{first_tables, next_tables, tables_of};
-ghost use Rattle.unit.specs.Standing.{contents};
 
 use super::{Followers, LARGEST_STINT, NEW_STINT, Unit};
 use engine::engine::Engine;
@@ -32,10 +30,10 @@ impl<E: Engine, F: Follower> Unit<E, F> {
 
     // Takes the pair of a frame, and answers it.
     pub fn load(&mut self, frame: &[u8]) -> Result<AdmittedPair, Fault>
-        ensures { Loads F.first F.turns E.largest (contents E.meaning F.table self.old) frame.now result (contents E.meaning F.table self.new) }
+        ensures { Loads self.old frame.now result self.new }
     {
         if self.pair.is_some() {
-            return Err(Fault::new(Reason::PairHeld, Layer::Unit, 0));
+            return Err(Reason::PairHeld.by(Layer::Unit));
         }
         let pair = read_pair(frame)?;
         self.engine.begin(pair)?;
@@ -46,10 +44,10 @@ impl<E: Engine, F: Follower> Unit<E, F> {
 
     // Sets the most commands of one work.
     pub fn stint(&mut self, most: u64) -> Result<(), Fault>
-        ensures { Stints F.first F.turns (contents E.meaning F.table self.old) most result (contents E.meaning F.table self.new) }
+        ensures { Stints self.old most result self.new }
     {
         if most == 0 || most > LARGEST_STINT {
-            return Err(Fault::new(Reason::BudgetOutOfRange, Layer::Unit, 0));
+            return Err(Reason::BudgetOutOfRange.by(Layer::Unit));
         }
         self.stint = most;
         Ok(())
@@ -57,10 +55,10 @@ impl<E: Engine, F: Follower> Unit<E, F> {
 
     // Empties the unit; its stint stays.
     pub fn clear(&mut self) -> Result<(), Fault>
-        ensures { Clears F.first F.turns (contents E.meaning F.table self.old) result (contents E.meaning F.table self.new) }
+        ensures { Clears self.old result self.new }
     {
         if self.pair.is_none() {
-            return Err(Fault::new(Reason::NothingHeld, Layer::Unit, 0));
+            return Err(Reason::NothingHeld.by(Layer::Unit));
         }
         self.pair = None;
         Ok(())
@@ -84,14 +82,11 @@ impl<E: Engine> Unit<E, Followers> {
 
     // Writes the frame of the result to the front of a buffer, and answers how long it is.
     pub fn collect(&self, buffer: &mut [u8]) -> Result<usize, Fault>
-        ensures { Collects first_tables next_tables (contents E.meaning tables_of self.now) buffer.old result buffer.new }
+        ensures { Collects self.now buffer.old result buffer.new }
     {
-        let Some(pair) = self.pair else {
-            return Err(Fault::new(Reason::NothingHeld, Layer::Unit, 0));
-        };
-        let Some(reduction) = read_out(pair, &self.engine, &self.followers) else {
-            return Err(Fault::new(Reason::RunNotOver, Layer::Unit, 0));
-        };
+        let pair = self.pair.ok_or(Reason::NothingHeld.by(Layer::Unit))?;
+        let result = read_out(pair, &self.engine, &self.followers);
+        let reduction = result.ok_or(Reason::RunNotOver.by(Layer::Unit))?;
         write_result(&reduction, buffer)
     }
 }

@@ -3,18 +3,18 @@ use Rattle.session.proofs.Events.{load_happened, stint_happened, work_happened, 
 use Rattle.session.proofs.perform.answer.Goals as goal
 
 pub returns-in-Load : goal.returns-in-Load
-returns-in-Load g c = λ o stands. load_happened g.E.Engine.largest o _ _ c.args.call stands c.in-Load.frame _ c.load.result c.in-Load.is c.as_slice.ensures.value c.load.ensures
+returns-in-Load g c = load_happened _ _ c.args.call c.in-Load.frame _ c.load.result c.in-Load.is c.as_slice.ensures.value c.load.ensures
 
 pub returns-in-Stint : goal.returns-in-Stint
-returns-in-Stint g c = λ o stands. stint_happened g.E.Engine.largest o _ _ c.args.call stands c.in-Stint.most c.stint.result c.in-Stint.is c.stint.ensures
+returns-in-Stint g c = stint_happened _ _ c.args.call c.in-Stint.most c.stint.result c.in-Stint.is c.stint.ensures
 
 pub returns-in-Work : goal.returns-in-Work
-returns-in-Work g c = λ o stands. work_happened g.E.Engine.largest o _ _ c.args.call stands c.in-Work.budget c.work.result c.in-Work.is c.work.ensures
+returns-in-Work g c = work_happened _ _ c.args.call c.in-Work.budget c.work.result c.in-Work.is c.work.ensures
 
 pub returns-in-Collect : goal.returns-in-Collect
-returns-in-Collect g c = λ o stands.
+returns-in-Collect g c =
     let long : length c.collect-length.new.buffer ≡ c.in-Collect.buffer.len = search rules in
-    collect_happened g.E.Engine.largest o _ c.args.call stands c.in-Collect.buffer c.as_mut_slice.result.now c.collect-length.new.buffer c.collect-length.result c.in-Collect.is c.as_mut_slice.ensures.value long c.collect-length.ensures
+    collect_happened _ c.args.call c.in-Collect.buffer c.as_mut_slice.result.now c.collect-length.new.buffer c.collect-length.result c.in-Collect.is c.as_mut_slice.ensures.value long c.collect-length.ensures
 
 pub returns-in-Clear : goal.returns-in-Clear
-returns-in-Clear g c = λ o stands. clear_happened g.E.Engine.largest o _ _ c.args.call stands c.clear.result c.in-Clear.is c.clear.ensures
+returns-in-Clear g c = clear_happened _ _ c.args.call c.clear.result c.in-Clear.is c.clear.ensures

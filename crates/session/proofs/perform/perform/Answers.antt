@@ -1,15 +1,13 @@
-use Rattle.std.proofs.Common.{◌≡◌, List, [], ◌∷◌, ◌++◌, None, vec_items, sym, refl, ap, ◌∙◌, subst, append_assoc, append-nil, arith, rules}
-use Rattle.std.proofs.lemmas.List.{nil_from_length}
+use Rattle.std.proofs.Common.{List, [], ◌∷◌, ◌++◌, vec_items, sym, refl, ap, ◌∙◌, append_assoc, arith, rules}
 use Rattle.std.specs.Vec.Iter.{into_iter_items}
-use Rattle.reduction.specs.Followers.{tables_of}
-use Rattle.unit.specs.Standing.{contents}
-use Rattle.session.specs.Performs.{Performed}
+use Rattle.unit.specs.Calls.{contents}
+use Rattle.unit.proofs.Places.{stands_in}
 use Rattle.session.specs.declared.call.Call.{Call}
 use Rattle.session.proofs.Laws.{performed_none, performed_more}
 use Rattle.session.proofs.perform.perform.Goals as goal
 
 pub loop-call-init : goal.loop-call-init
-loop-call-init g c = (tt, tt, refl, search rules, λ e. performed_none g.E.Engine.largest _ _ e c.clear.ensures.items)
+loop-call-init g c = (tt, tt, refl, search rules, λ e. performed_none _ _ e c.clear.ensures.items)
 
 pub loop-call-preserved : goal.loop-call-preserved
 loop-call-preserved g c =
@@ -18,15 +16,5 @@ loop-call-preserved g c =
       tt,
       append_assoc c.loop-call.yielded (c.in-Some.call ∷ []) (into_iter_items c.next.new.self) ∙ ap (λ (l : List Call). c.loop-call.yielded ++ l) (sym c.in-Some.ensures.steps.0) ∙ i.2,
       omega (arith, i.3, c.in-Some.ensures.steps.1, c.push_reserved.ensures.len, c.push_reserved.ensures.capacity),
-      λ e. performed_more g.E.Engine.largest _ _ _ c.loop-call.yielded _ _ _ c.answer.result c.push_reserved.ensures.items (i.4 e) c.answer.ensures,
+      λ e. performed_more c.args.unit.now c.loop-call.unit c.answer.new.unit c.loop-call.yielded (vec_items c.loop-call.answers) _ c.in-Some.call c.answer.result c.push_reserved.ensures.items (i.4 e) c.answer.ensures (stands_in (contents c.answer.new.unit) c.answer.new.unit.placed),
     )
-
-pub returns : goal.returns
-returns g c =
-    let u = contents g.E.Engine.meaning tables_of in
-    let empty : c.args.unit.now.pair ≡ None = search rules in
-    let i = c.loop-call.invariant in
-    let rest = c.loop-call.call-iterator.rest in
-    let none = nil_from_length rest.items (sym rest.ok.0 ∙ c.in-None.ensures.steps.0) in
-    let all = sym (append-nil c.loop-call.yielded) ∙ ap (λ (l : List Call). c.loop-call.yielded ++ l) (sym none) ∙ i.2 ∙ c.into_iter-call-iterator.ensures.into_iter_gives.0 in
-    (empty, omega (arith, c.if-capacity-len.false, c.len.ensures, c.capacity.ensures, c.args.calls.ok.0), subst (λ (l : List Call). Performed g.E.Engine.largest (u c.args.unit.now) l (vec_items c.loop-call.answers) (u c.loop-call.unit)) all (i.4 empty))

@@ -1,14 +1,19 @@
-use Rattle.std.proofs.Common.{Some, None, Err, refl, ap, rules}
-use Rattle.reduction.specs.Followers.{tables_of}
-use Rattle.unit.specs.Standing.{contents}
+use Rattle.std.proofs.Common.{◌≡◌, Some, None, refl, rules}
 use Rattle.frame.specs.Results.{result_frame}
+use Rattle.unit.specs.Calls.{contents}
 use Rattle.unit.proofs.Collects.{collects, in_room}
 use Rattle.unit.proofs.unit.calls.Unit+E+Followers.collect.Goals as goal
 
-pub returns-in_default-read_out : goal.returns-in_default-read_out
-returns-in_default-read_out g c = λ s.
-    collects s (contents g.E.Engine.meaning tables_of c.args.self.now) c.in-Some.pair None _ _ _ c.in-Some.is c.in_default-read_out.ensures (ap Err c.new-in_default-read_out.ensures, refl)
+pub returns-in_err-reduction : goal.returns-in_err-reduction
+returns-in_err-reduction g c =
+    let u = c.args.self.now in
+    let some : u.pair ≡ Some c.in_ok-pair.pair = search rules in
+    let none : c.read_out-result.result ≡ None = search rules in
+    collects (contents u) c.in_ok-pair.pair None _ _ _ some u.placed (rw none at c.read_out-result.ensures) (search rules, refl)
 
 pub returns : goal.returns
-returns g c = λ s.
-    collects s (contents g.E.Engine.meaning tables_of c.args.self.now) c.in-Some.pair (Some c.in-Some-read_out.reduction) _ _ _ c.in-Some.is c.in-Some-read_out.ensures (in_room (result_frame c.in-Some-read_out.reduction) c.args.buffer.now _ _ (search rules) c.write_result.ensures)
+returns g c =
+    let u = c.args.self.now in
+    let some : u.pair ≡ Some c.in_ok-pair.pair = search rules in
+    let there : c.read_out-result.result ≡ Some c.in_ok-reduction.reduction = search rules in
+    collects (contents u) c.in_ok-pair.pair (Some c.in_ok-reduction.reduction) _ _ _ some u.placed (rw there at c.read_out-result.ensures) (in_room (result_frame c.in_ok-reduction.reduction) c.args.buffer.now _ _ (search rules) c.write_result.ensures)

@@ -1,6 +1,6 @@
 -- Why u and v are cofactors of the greatest common divisor, and small.
 use Rattle.std.proofs.Common.{◌≡◌, ℕ, zero, suc, ◌+◌, ◌*◌, ◌^◌, ◌<◌, ◌≤◌, Bool, true, false, ◌||◌, ltb, ℤ, pos, ◌+ℤ◌, ◌*ℤ◌, neg_ℤ, nat_abs, sym, refl, ap, ◌∙◌, subst, subst₂, inl, inr, mul-le-mul_right, mul-one, le_of_mul-le-mul_right, arith, pow_pos, pow_mono}
-use Rattle.std.proofs.lemmas.Int.{ints}
+use Rattle.std.proofs.lemmas.Int.{ints, unsigned_abs-mul}
 use Rattle.std.proofs.lemmas.Bool.{cases_Bool, both_ways}
 use Rattle.rule.specs.Divisor.{Divides, Greatest, divisor}
 use Rattle.rule.specs.Pairs.{order_of, start_of}

@@ -1,16 +1,16 @@
 -- Why the fraction follower stays in its relation, and why its first column ends as the fraction in lowest terms.
 use Rattle.std.specs.Prelude.{◌≡◌, ℕ, zero, suc, ◌*◌, ◌^◌, ◌<◌, ◌≤◌, Bool, true, false, ℤ, pos, negsuc, ◌+ℤ◌, ◌-ℤ◌, ◌*ℤ◌, neg_ℤ, ◌<ℤ◌, ◌≢◌, unsigned_abs, refl}
 use Rattle.std.proofs.Common.{sym, ap, ◌∙◌, subst, subst₂, arith, mod-lt}
-use Rattle.std.proofs.Math.IntN.{+ℤ_comm}
-use Rattle.std.proofs.lemmas.Int.{ints}
+use Rattle.std.proofs.Math.IntN.{+ℤ_comm, neg_ℤ-neg_ℤ}
+use Rattle.std.proofs.lemmas.Int.{ints, unsigned_abs-mul}
 use Rattle.rule.specs.Kind.{sign_by, summed}
 use Rattle.rule.specs.Divisor.{Divides, Greatest, divisor}
 use Rattle.rule.specs.Pairs.{order_of, start_of}
 use Rattle.rule.specs.Rule.{State, command_by, command, obeyed, next, after, told}
 use Rattle.rule.specs.Whole.{odd, half, fourfold, whole, Below}
 use Rattle.rule.specs.declared.pair.AdmittedPair.{AdmittedPair}
-use Rattle.rule.proofs.Ring.{out, lin, *ℤ-unit, *ℤ-neg, neg-neg}
-use Rattle.rule.proofs.Sizes.{abs-mul, factor_most, left_some, right_some, pow_some}
+use Rattle.rule.proofs.Ring.{out, lin, *ℤ-unit, *ℤ-neg}
+use Rattle.rule.proofs.Sizes.{factor_most, left_some, right_some, pow_some}
 use Rattle.rule.proofs.Parity.{odd_no, joins}
 use Rattle.rule.proofs.Fuel.{after_more}
 use Rattle.rule.proofs.Whole.{zero_yes}

@@ -1,10 +1,10 @@
 -- The cofactor follower takes every command of the run of its pair, and stays in its relation.
 use Rattle.std.specs.Prelude.{◌≡◌, ℕ, zero, suc, ◌+◌, ◌*◌, ◌^◌, ◌≤◌, Bool, true, false, not, ◌&&◌, ◌||◌, ◌⊎◌, ℤ, pos, ◌+ℤ◌, ◌-ℤ◌, ◌*ℤ◌, Some, int_le, unsigned_abs, refl}
+use Rattle.std.specs.Bool.{xor}
 use Rattle.std.proofs.Common.{sym, ap, ◌∙◌, subst₂, inl, inr, arith, pow-add, pow_pos}
 use Rattle.std.proofs.Math.IntN.{+ℤ_comm}
 use Rattle.std.proofs.lemmas.Int.{ints}
 use Rattle.std.proofs.lemmas.Bool.{both_ways, or_parts, or_left, or_right, and_from}
-use mathlib.Core.Bool.{xor}
 use Rattle.rule.specs.Kind.{sign_by, summed}
 use Rattle.rule.specs.Pairs.{order_of, start_of}
 use Rattle.rule.specs.Rule.{State, command_by, command, obeyed, next, after, told}
@@ -14,7 +14,7 @@ use Rattle.rule.specs.declared.command.Sign.TheVariants.{Plus, Minus}
 use Rattle.rule.specs.declared.command.Command.{Command}
 use Rattle.rule.specs.declared.pair.AdmittedPair.{AdmittedPair}
 use Rattle.rule.proofs.Ring.{out, lin}
-use Rattle.rule.proofs.Parity.{odd_no, odd_double, Joins, joins, xor, parity}
+use Rattle.rule.proofs.Parity.{odd_no, odd_double, Joins, joins, parity}
 use Rattle.rule.proofs.Fuel.{after_more}
 use Rattle.follower.specs.Following.{turned, table_at, Follows}
 use Rattle.follower.specs.Cofactor.{CofactorRows, first_rows, swapped, combined, corrected, evened, halved_row, in_range, row_fits, rows_take, rows_turn, CofactorRowsRelated, cofactor_first, cofactor_turns}

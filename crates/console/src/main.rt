@@ -21,19 +21,13 @@ fn read(rt: &HostRuntime) -> anyhow::Result<String> {
     if bytes.len() as u64 > LARGEST_SCRIPT {
         return Err(anyhow!("a script has at most 1048576 bytes"));
     }
-    match String::from_utf8(bytes) {
-        Ok(text) => Ok(text),
-        Err(_) => Err(anyhow!("a script is text in UTF-8")),
-    }
+    String::from_utf8(bytes).map_err(|_| anyhow!("a script is text in UTF-8"))
 }
 
 // What the calls answer, in their order, on a new unit over a word engine.
 fn performed(heap: Global, calls: Vec<Call>) -> Result<Vec<Answer>, AllocError> {
     let room = Vec::with_capacity(heap, calls.len())?;
-    match perform(&mut Unit::over(WordEngine::new()), calls, room) {
-        Ok(answers) => Ok(answers),
-        Err(_) => unreachable!(),
-    }
+    Ok(perform(&mut Unit::over(WordEngine::new()), calls, room).unwrap())
 }
 
 fn run(rt: &HostRuntime) -> anyhow::Result<()> {

@@ -1,11 +1,11 @@
 -- Lines that add in turn: one line more, and what the entries then are.
-use Rattle.std.proofs.Common.{◌≡◌, ℕ, suc, ◌+◌, List, [], ◌∷◌, ◌++◌, map, length, string_bytes, sym, refl, ap, ◌∙◌, subst, arith}
+use Rattle.std.proofs.Common.{◌≡◌, ℕ, suc, ◌+◌, List, [], ◌∷◌, ◌++◌, map, length, string_bytes, Some, None, Ok, Err, Option, Result, sym, refl, ap, ◌∙◌, subst, arith}
 use Rattle.std.proofs.lemmas.List.{map-append}
 use Rattle.session.specs.declared.call.Call.{Call}
-use Rattle.script.specs.Calls.{call_text}
+use Rattle.session.specs.Calls.{call_text}
 use Rattle.script.specs.Scripts.{Adds, AddInTurn, NotedAs, calls_in, call_texts}
-use Rattle.script.specs.declared.line.Line.{Line}
-use Rattle.script.specs.declared.line.Line.TheVariants.{Nothing, Call as Called, Wrong as Unlike}
+use Rattle.script.specs.declared.fault.LineError.{LineError}
+use Rattle.script.specs.declared.fault.LineError.TheVariants.{NoMemory, Wrong as Unlike}
 use Rattle.script.specs.declared.parse.Entry.{Entry}
 use Rattle.script.specs.declared.parse.Entry.TheVariants.{Call as Answered, Wrong}
 
@@ -38,10 +38,11 @@ texts-append [] fs = refl
 texts-append (Answered text ∷ es) fs = ap (λ ts. string_bytes text ∷ ts) (texts-append es fs)
 texts-append (Wrong place fault ∷ es) fs = texts-append es fs
 
-texts_noted : (place : ℕ) (read : Line) (entries : List Entry) → NotedAs place read entries → call_texts entries ≡ map call_text (calls_in read)
-texts_noted place Nothing entries h = ap call_texts h
-texts_noted place (Called call) entries h = ap call_texts h.1 ∙ ap (λ t. t ∷ []) h.2
-texts_noted place (Unlike fault) entries h = ap call_texts h
+texts_noted : (place : ℕ) (read : Result (Option Call) LineError) (entries : List Entry) → NotedAs place read entries → call_texts entries ≡ map call_text (calls_in read)
+texts_noted place (Ok None) entries h = ap call_texts h
+texts_noted place (Ok (Some call)) entries h = ap call_texts h.1 ∙ ap (λ t. t ∷ []) h.2
+texts_noted place (Err (Unlike fault)) entries h = ap call_texts h
+texts_noted place (Err NoMemory) entries h = absurd h
 
 texts_added : (place : ℕ) (line : List ℕ) (calls calls' : List Call) (entries entries' : List Entry)
     → Adds place line calls entries calls' entries' → call_texts entries ≡ map call_text calls → call_texts entries' ≡ map call_text calls'

@@ -1,15 +1,14 @@
 -- Which call a word with what stands behind it is.
-use Rattle.std.specs.Prelude.{◌≡◌, ℕ, ◌≤◌, List, [], ◌∷◌, replicate, Some, vec_items, Vec}
+use Rattle.std.specs.Prelude.{◌≡◌, ℕ, ◌≤◌, List, [], ◌∷◌, replicate, Some, None, Option, vec_items, Vec}
+use Rattle.std.specs.Borrow.{Bor}
 use Rattle.std.specs.declared.alloc.Global.{Global}
 use Rattle.frame.specs.Hex.{good, hex_reading}
 use Rattle.session.specs.declared.call.Call.{Call}
 use Rattle.session.specs.declared.call.Call.TheVariants.{Load, Stint, Work, Collect, Clear}
 use Rattle.script.specs.Numbers.{NumberOf}
 use Rattle.script.specs.Words.{after_word, first_word}
-use Rattle.script.specs.declared.line.Arguments.{Arguments}
-use Rattle.script.specs.declared.line.Arguments.TheVariants.{Nothing, One, More}
-use Rattle.script.specs.declared.line.Unread.{Unread}
-use Rattle.script.specs.declared.line.Unread.TheVariants.{Wrong, NoMemory}
+use Rattle.script.specs.declared.fault.LineError.{LineError}
+use Rattle.script.specs.declared.fault.LineError.TheVariants.{Wrong, NoMemory}
 use Rattle.script.specs.declared.verb.Verb.{Verb}
 use Rattle.script.specs.declared.verb.Verb.TheVariants.{Load as ToLoad, Stint as ToStint, Work as ToWork, Collect as ToCollect, Clear as ToClear}
 
@@ -19,11 +18,11 @@ pub data Behind : Type 0 where
   one : List ℕ → Behind
   more : Behind
 
--- What the code holds of them.
-abbrev pub held : Arguments → Behind
-held Nothing = none
-held (One word) = one word.now
-held More = more
+-- What the code holds of them: the first two.
+abbrev pub held : Option (Bor (List ℕ)) × Option (Bor (List ℕ)) → Behind
+held (None, second) = none
+held (Some word, None) = one word.now
+held (Some word, Some next) = more
 
 -- By the first two words, which are empty where there is none.
 abbrev pub counted : List ℕ → List ℕ → Behind
@@ -48,7 +47,7 @@ FrameIn (one word) bytes = hex_reading word ≡ good bytes
 FrameIn more bytes = ⊥
 
 -- Only what is no frame is found wrong; without memory nothing is known.
-abbrev pub Unframed : Behind → Unread → Type 0
+abbrev pub Unframed : Behind → LineError → Type 0
 Unframed words (Wrong fault) = (bytes : List ℕ) → FrameIn words bytes → ⊥
 Unframed words NoMemory = Unit {0}
 
@@ -61,6 +60,6 @@ Makes ToCollect words call = (buffer : Vec ℕ Global) × (n : ℕ) × (call ≡
 Makes ToClear words call = (call ≡ Clear) × (words ≡ none)
 
 -- Only words that make no call of the verb are found wrong; without memory nothing is known.
-abbrev pub Unmade : Verb → Behind → Unread → Type 0
+abbrev pub Unmade : Verb → Behind → LineError → Type 0
 Unmade verb words (Wrong fault) = (call : Call) → Makes verb words call → ⊥
 Unmade verb words NoMemory = Unit {0}

@@ -1,13 +1,13 @@
 -- What the lines of a script give: calls, and an entry for each of them and for each line that is no call.
-use Rattle.std.specs.Prelude.{◌≡◌, ℕ, suc, cond, List, [], ◌∷◌, ◌++◌, string_bytes, String, ◌==◌}
+use Rattle.std.specs.Prelude.{◌≡◌, ℕ, suc, cond, List, [], ◌∷◌, ◌++◌, string_bytes, String, Some, None, Ok, Err, Option, Result, ◌==◌}
 use Rattle.std.specs.Str.Iter.{LacksByte}
 use Rattle.std.specs.List.{join_with_byte, AllByRecursion}
 use Rattle.std.specs.declared.alloc.Global.{Global}
 use Rattle.session.specs.declared.call.Call.{Call}
-use Rattle.script.specs.Calls.{call_text}
+use Rattle.session.specs.Calls.{call_text}
 use Rattle.script.specs.Lines.{ReadsLine}
-use Rattle.script.specs.declared.line.Line.{Line}
-use Rattle.script.specs.declared.line.Line.TheVariants.{Nothing, Call as Called, Wrong as Unlike}
+use Rattle.script.specs.declared.fault.LineError.{LineError}
+use Rattle.script.specs.declared.fault.LineError.TheVariants.{NoMemory, Wrong as Unlike}
 use Rattle.script.specs.declared.parse.Entry.{Entry}
 use Rattle.script.specs.declared.parse.Entry.TheVariants.{Call as Answered, Wrong}
 
@@ -18,20 +18,21 @@ bare (c ∷ []) = cond (c == 13) [] (c ∷ [])
 bare (c ∷ d ∷ cs) = c ∷ bare (d ∷ cs)
 
 -- The calls of what was read of a line: one or none.
-abbrev pub calls_in : Line → List Call
-calls_in Nothing = []
-calls_in (Called call) = call ∷ []
-calls_in (Unlike fault) = []
+abbrev pub calls_in : Result (Option Call) LineError → List Call
+calls_in (Ok None) = []
+calls_in (Ok (Some call)) = call ∷ []
+calls_in (Err e) = []
 
--- The entries for what was read of the line with this number.
-abbrev pub NotedAs : ℕ → Line → List Entry → Type 0
-NotedAs place Nothing entries = entries ≡ []
-NotedAs place (Called call) entries = (text : String Global) × (entries ≡ Answered text ∷ []) × (string_bytes text ≡ call_text call)
-NotedAs place (Unlike fault) entries = entries ≡ Wrong place fault ∷ []
+-- The entries for what was read of the line with this number; there is no script without memory.
+abbrev pub NotedAs : ℕ → Result (Option Call) LineError → List Entry → Type 0
+NotedAs place (Ok None) entries = entries ≡ []
+NotedAs place (Ok (Some call)) entries = (text : String Global) × (entries ≡ Answered text ∷ []) × (string_bytes text ≡ call_text call)
+NotedAs place (Err (Unlike fault)) entries = entries ≡ Wrong place fault ∷ []
+NotedAs place (Err NoMemory) entries = ⊥
 
 -- The line with this number gives these calls and entries.
 pub record Gives (place : ℕ) (line : List ℕ) (calls : List Call) (entries : List Entry) : Type 0 where
-  pub read : Line
+  pub read : Result (Option Call) LineError
   pub reads : ReadsLine (bare line) read
   pub called : calls ≡ calls_in read
   pub noted : NotedAs place read entries

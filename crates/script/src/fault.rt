@@ -1,10 +1,16 @@
 // What can be wrong with a line of a script.
+ghost use Rattle.std.specs.Prelude.{◌≡◌};
+ghost use Rattle.script.specs.Faults.{of_digits};
+ghost use Rattle.script.specs.declared.fault.LineError.TheVariants.{NoMemory, Wrong};
+
 use crate::argument::LARGEST_BUFFER;
 use crate::verb::Verb;
+use frame::hex::HexFault;
+use std::alloc::AllocError;
 use std::fmt;
 
 // Why a line is no call; a fault of one word shows the word.
-#[derive(Clone, Copy)]
+#[derive(Clone, Copy, PartialEq, Eq, Debug)]
 pub enum LineFault<'a> {
     NotACall(&'a str),
     NotOneNumber(Verb),
@@ -14,6 +20,41 @@ pub enum LineFault<'a> {
     OddDigits,
     NotADigit,
     BufferTooLong,
+}
+
+// Why nothing was read of a line: it is no call, or there is no memory for its call.
+#[derive(Clone, Copy, PartialEq, Eq, Debug)]
+pub enum LineError<'a> {
+    Wrong(LineFault<'a>),
+    NoMemory,
+}
+
+impl<'a> From<LineFault<'a>> for LineError<'a> {
+    ghost from_gives = { λ fault r. r ≡ Wrong fault };
+
+    fn from(fault: LineFault<'a>) -> LineError<'a> {
+        LineError::Wrong(fault)
+    }
+}
+
+impl<'a> From<AllocError> for LineError<'a> {
+    ghost from_gives = { λ _ r. r ≡ NoMemory };
+
+    fn from(_e: AllocError) -> LineError<'a> {
+        LineError::NoMemory
+    }
+}
+
+impl<'a> From<HexFault> for LineError<'a> {
+    ghost from_gives = { λ fault r. r ≡ of_digits fault };
+
+    fn from(fault: HexFault) -> LineError<'a> {
+        match fault {
+            HexFault::OddLength => LineError::Wrong(LineFault::OddDigits),
+            HexFault::NotADigit => LineError::Wrong(LineFault::NotADigit),
+            HexFault::NoMemory => LineError::NoMemory,
+        }
+    }
 }
 
 impl<'a> fmt::Display for LineFault<'a> {
@@ -32,8 +73,8 @@ impl<'a> fmt::Display for LineFault<'a> {
                 let largest = u64::MAX;
                 write!(f, "'{word}' is not a number from 0 to {largest}")
             }
-            LineFault::OddDigits => write!(f, "a frame has two hexadecimal digits for each byte"),
-            LineFault::NotADigit => write!(f, "a frame has only hexadecimal digits"),
+            LineFault::OddDigits => HexFault::OddLength.fmt(f),
+            LineFault::NotADigit => HexFault::NotADigit.fmt(f),
             LineFault::BufferTooLong => write!(f, "a buffer has at most {LARGEST_BUFFER} bytes"),
         }
     }

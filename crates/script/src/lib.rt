@@ -5,6 +5,4 @@ pub mod fault;
 pub mod line;
 pub mod parse;
 pub mod report;
-pub mod text;
 pub mod verb;
-mod word;

@@ -1,82 +1,26 @@
 // One line of a script, read.
-ghost use Rattle.std.specs.Prelude.{◌≡◌, ℕ, ◌≤◌, IfOk, Ok, Err};
-ghost use Rattle.script.specs.declared.line.Unread.TheVariants.{NoMemory, Wrong};
-ghost use Rattle.script.specs.Arguments.{FrameIn, Makes, NumberIn, Unframed, Unmade, behind, held};
+ghost use Rattle.std.specs.Prelude.{◌≡◌, ℕ, ◌≤◌, Ok, Err};
+ghost use Rattle.script.specs.Arguments.{FrameIn, Makes, NumberIn, Unframed, Unmade, held};
 ghost use Rattle.script.specs.Lines.{ReadsLine};
 
 use crate::argument;
 use crate::argument::LARGEST_BUFFER;
-use crate::fault::LineFault;
+use crate::fault::{LineError, LineFault};
 use crate::verb::Verb;
-use crate::word::first_word;
 use frame::hex;
-use frame::hex::HexFault;
 use session::call::Call;
-use std::alloc::{AllocError, Global};
+use std::alloc::Global;
 
-// What a line holds: nothing, as a blank line and a comment do, a call, or something that is no call.
-#[derive(Drop)]
-pub enum Line<'a> {
-    Nothing,
-    Call(Call),
-    Wrong(LineFault<'a>),
-}
-
-// Why a line gave no call.
-#[derive(Drop)]
-enum Unread<'a> {
-    Wrong(LineFault<'a>),
-    NoMemory,
-}
-
-impl<'a> From<LineFault<'a>> for Unread<'a> {
-    ghost from_gives = { λ fault r. r ≡ Wrong fault };
-
-    fn from(fault: LineFault<'a>) -> Unread<'a> {
-        Unread::Wrong(fault)
-    }
-}
-
-impl<'a> From<AllocError> for Unread<'a> {
-    ghost from_gives = { λ _ r. r ≡ NoMemory };
-
-    fn from(_e: AllocError) -> Unread<'a> {
-        Unread::NoMemory
-    }
-}
-
-// The words behind the word of a call.
-#[derive(Clone, Copy)]
-enum Arguments<'a> {
-    Nothing,
-    One(&'a str),
-    More,
-}
-
-fn words_of(text: &str) -> Arguments<'_>
-    ensures { held result ≡ behind text.now }
-{
-    let (first, rest) = first_word(text);
-    let (second, _) = first_word(rest);
-    if first.is_empty() {
-        Arguments::Nothing
-    } else if second.is_empty() {
-        Arguments::One(first)
-    } else {
-        Arguments::More
-    }
-}
+// The first two of the words behind the word of a call.
+type Arguments<'a> = (Option<&'a str>, Option<&'a str>);
 
 fn number<'a>(verb: Verb, arguments: Arguments<'a>) -> Result<u64, LineFault<'a>>
     ensures { elim result [ Ok n ↦ NumberIn (held arguments.entry) n | Err f ↦ (n : ℕ) → NumberIn (held arguments.entry) n → ⊥ ] }
 {
-    let Arguments::One(word) = arguments else {
+    let (Some(word), None) = arguments else {
         return Err(LineFault::NotOneNumber(verb));
     };
-    match argument::number(word) {
-        Some(n) => Ok(n),
-        None => Err(LineFault::NotANumber(word)),
-    }
+    argument::number(word).ok_or(LineFault::NotANumber(word))
 }
 
 fn buffer_length(arguments: Arguments<'_>) -> Result<usize, LineFault<'_>>
@@ -90,23 +34,18 @@ fn buffer_length(arguments: Arguments<'_>) -> Result<usize, LineFault<'_>>
 }
 
 // A frame of no bytes needs no digits: any bytes may be loaded, and it is the unit that refuses them.
-fn frame<'a>(heap: Global, arguments: Arguments<'a>) -> Result<Vec<u8>, Unread<'a>>
+fn frame<'a>(heap: Global, arguments: Arguments<'a>) -> Result<Vec<u8>, LineError<'a>>
     ensures { elim result [ Ok v ↦ FrameIn (held arguments.entry) v.items | Err e ↦ Unframed (held arguments.entry) e ] }
 {
     let digits = match arguments {
-        Arguments::Nothing => "",
-        Arguments::One(word) => word,
-        Arguments::More => return Err(Unread::Wrong(LineFault::NotOneFrame)),
+        (None, _) => "",
+        (Some(word), None) => word,
+        (Some(_), Some(_)) => return Err(LineFault::NotOneFrame.into()),
     };
-    match hex::bytes_of(heap, digits) {
-        Ok(bytes) => Ok(bytes),
-        Err(HexFault::OddLength) => Err(Unread::Wrong(LineFault::OddDigits)),
-        Err(HexFault::NotADigit) => Err(Unread::Wrong(LineFault::NotADigit)),
-        Err(HexFault::NoMemory) => Err(Unread::NoMemory),
-    }
+    Ok(hex::bytes_of(heap, digits)?)
 }
 
-fn call<'a>(heap: Global, verb: Verb, arguments: Arguments<'a>) -> Result<Call, Unread<'a>>
+fn call<'a>(heap: Global, verb: Verb, arguments: Arguments<'a>) -> Result<Call, LineError<'a>>
     ensures { elim result [ Ok c ↦ Makes verb (held arguments.entry) c | Err e ↦ Unmade verb (held arguments.entry) e ] }
 {
     match verb {
@@ -114,27 +53,23 @@ fn call<'a>(heap: Global, verb: Verb, arguments: Arguments<'a>) -> Result<Call, 
         Verb::Stint => Ok(Call::Stint(number(verb, arguments)?)),
         Verb::Work => Ok(Call::Work(number(verb, arguments)?)),
         Verb::Collect => Ok(Call::Collect(argument::buffer(heap, buffer_length(arguments)?)?)),
-        Verb::Clear => match arguments {
-            Arguments::Nothing => Ok(Call::Clear),
-            _ => Err(Unread::Wrong(LineFault::NotAlone)),
-        },
+        Verb::Clear if arguments.0.is_none() => Ok(Call::Clear),
+        Verb::Clear => Err(LineFault::NotAlone.into()),
     }
 }
 
-// What a line holds; it is given without its line feed and carriage return.
-pub fn read_line(heap: Global, line: &str) -> Result<Line<'_>, AllocError>
-    ensures { IfOk result (λ l. ReadsLine line.now l) }
+// The call of a line, or none where it is blank or a comment; the line is given without its line feed and carriage return.
+pub fn read_line(heap: Global, line: &str) -> Result<Option<Call>, LineError<'_>>
+    ensures { ReadsLine line.now result }
 {
-    let (word, rest) = first_word(line);
-    if word.is_empty() || word.starts_with('#') {
-        return Ok(Line::Nothing);
-    }
-    let Some(verb) = Verb::named(word) else {
-        return Ok(Line::Wrong(LineFault::NotACall(word)));
+    let mut words = line.split([' ', '\t']).filter(|word| !word.is_empty());
+    let Some(word) = words.next() else {
+        return Ok(None);
     };
-    match call(heap, verb, words_of(rest)) {
-        Ok(call) => Ok(Line::Call(call)),
-        Err(Unread::Wrong(fault)) => Ok(Line::Wrong(fault)),
-        Err(Unread::NoMemory) => Err(AllocError),
+    if word.starts_with('#') {
+        return Ok(None);
     }
+    let verb = Verb::try_from(word)?;
+    let arguments = (words.next(), words.next());
+    Ok(Some(call(heap, verb, arguments)?))
 }

@@ -1,11 +1,10 @@
 // A whole script: its calls, and what stands for each of its lines in the report.
 ghost use Rattle.std.specs.Prelude.{◌≡◌, map, IfOk, OnOk};
-ghost use Rattle.script.specs.Calls.{call_text};
+ghost use Rattle.session.specs.Calls.{call_text};
 ghost use Rattle.script.specs.Scripts.{Adds, ScriptOf, bare, call_texts};
 
-use crate::fault::LineFault;
-use crate::line::{Line, read_line};
-use crate::text::text_of;
+use crate::fault::{LineError, LineFault};
+use crate::line::read_line;
 use session::call::Call;
 use std::alloc::{AllocError, Global};
 
@@ -17,6 +16,7 @@ pub enum Entry<'a> {
 }
 
 // The calls, and an entry for each of them and for each line that is no call, in the order of the lines.
+// The calls are a list of their own, since a list of calls is what is performed, and that uses it up.
 #[derive(Drop)]
 pub struct Script<'a> {
     pub calls: Vec<Call>,
@@ -35,13 +35,14 @@ impl<'a> Script<'a> {
     fn add(&mut self, heap: Global, place: u64, line: &'a str) -> Result<(), AllocError>
         ensures { OnOk result (Adds place line.now self.old.calls.items self.old.entries.items self.new.calls.items self.new.entries.items) }
     {
-        match read_line(heap, without_return(line))? {
-            Line::Nothing => {}
-            Line::Call(call) => {
-                self.entries.push(Entry::Call(text_of(heap, &call)?))?;
+        match read_line(heap, without_return(line)) {
+            Ok(None) => {}
+            Ok(Some(call)) => {
+                self.entries.push(Entry::Call(format!(in heap; "{call}")?))?;
                 self.calls.push(call)?;
             }
-            Line::Wrong(fault) => self.entries.push(Entry::Wrong(place, fault))?,
+            Err(LineError::Wrong(fault)) => self.entries.push(Entry::Wrong(place, fault))?,
+            Err(LineError::NoMemory) => return Err(AllocError),
         }
         Ok(())
     }
@@ -56,10 +57,8 @@ pub fn parse(heap: Global, text: &str) -> Result<Script<'_>, AllocError>
         calls: Vec::new(heap),
         entries: Vec::new(heap),
     };
-    let mut place = 0;
-    for line in text.split('\n') {
-        place += 1;
-        script.add(heap, place, line)?;
+    for (index, line) in text.split('\n').enumerate() {
+        script.add(heap, index as u64 + 1, line)?;
     }
     Ok(script)
 }

@@ -1,7 +1,8 @@
 // The words that name the calls of a unit.
-ghost use Rattle.std.specs.Prelude.{◌≡◌};
+ghost use Rattle.std.specs.Prelude.{◌≡◌, Some};
 ghost use Rattle.script.specs.Verbs.{Names, spelling};
 
+use crate::fault::LineFault;
 use std::fmt;
 
 #[derive(Clone, Copy, PartialEq, Eq, Debug)]
@@ -13,21 +14,25 @@ pub enum Verb {
     Clear,
 }
 
-impl Verb {
-    // The call that a word names; words are in lower case.
-    pub fn named(word: &str) -> Option<Verb>
-        ensures { Names word.now result }
-    {
+// The call that a word names; words are in lower case.
+impl<'a> TryFrom<&'a str> for Verb {
+    type Error = LineFault<'a>;
+
+    ghost try_from_gives = { Names };
+
+    fn try_from(word: &'a str) -> Result<Verb, LineFault<'a>> {
         match word {
-            "load" => Some(Verb::Load),
-            "stint" => Some(Verb::Stint),
-            "work" => Some(Verb::Work),
-            "collect" => Some(Verb::Collect),
-            "clear" => Some(Verb::Clear),
-            _ => None,
+            "load" => Ok(Verb::Load),
+            "stint" => Ok(Verb::Stint),
+            "work" => Ok(Verb::Work),
+            "collect" => Ok(Verb::Collect),
+            "clear" => Ok(Verb::Clear),
+            _ => Err(LineFault::NotACall(word)),
         }
     }
+}
 
+impl Verb {
     pub fn spelling(self) -> &'static str
         ensures { result.now ≡ spelling self }
     {
@@ -42,6 +47,8 @@ impl Verb {
 }
 
 impl fmt::Display for Verb {
+    ghost output = { λ verb. Some (spelling verb) };
+
     fn fmt<W: fmt::Write>(&self, f: &mut fmt::Formatter<W>) -> fmt::Result {
         f.pad(self.spelling())
     }

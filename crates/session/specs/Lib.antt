@@ -1,3 +1,4 @@
+pub mod Calls
 pub mod History
 pub mod Law
 pub mod Performs

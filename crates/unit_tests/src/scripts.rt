@@ -1,9 +1,9 @@
 // Scripts of calls: lines that are calls, lines that are none with what is said of them, and the report of a whole script.
 use engine::word::WordEngine;
-use script::line::{Line, read_line};
+use script::fault::LineError;
+use script::line::read_line;
 use script::parse::{Script, parse};
 use script::report::Report;
-use script::text::text_of;
 use session::perform::perform;
 use std::alloc::Global;
 use std::test::*;
@@ -89,8 +89,8 @@ clear: done
 #[test]
 fn lines_that_are_no_call(rt: HostRuntime) -> Result<(), Fail> {
     for (line, message) in NO_CALLS {
-        match read_line(rt.alloc(), line)? {
-            Line::Wrong(fault) => assert_eq!(rt;
+        match read_line(rt.alloc(), line) {
+            Err(LineError::Wrong(fault)) => assert_eq!(rt;
                 format!(in rt.alloc(); "{fault}")?.as_str(),
                 message
             ),
@@ -103,8 +103,8 @@ fn lines_that_are_no_call(rt: HostRuntime) -> Result<(), Fail> {
 #[test]
 fn lines_that_are_calls(rt: HostRuntime) -> Result<(), Fail> {
     for (line, normal) in CALLS {
-        match read_line(rt.alloc(), line)? {
-            Line::Call(call) => assert_eq!(rt; text_of(rt.alloc(), &call)?.as_str(), normal),
+        match read_line(rt.alloc(), line) {
+            Ok(Some(call)) => { assert_eq!(rt; format!(in rt.alloc(); "{call}")?.as_str(), normal) }
             _ => return Err(Fail::new(line)),
         }
     }

@@ -1,4 +1,4 @@
--- Calls in normal form.
+-- Calls as text, in normal form.
 use Rattle.std.specs.Prelude.{ℕ, List, [], ◌∷◌, ◌++◌, length, vec_items, codes, decimal}
 use Rattle.frame.specs.Hex.{hex_text}
 use Rattle.session.specs.declared.call.Call.{Call}

@@ -19,6 +19,7 @@ impl Sequence {
     }
 
     // The next number of the sequence, of which as many high bits are taken as the order has.
+    #[tactic(auto, using(crate::proofs::HighBits::high_bits_fit))]
     pub fn operand(&mut self, order: Order) -> i64
         ensures seed { self.new.seed ≡ next_seed self.old.seed }
         ensures operand { result ≡ pos (next_seed self.old.seed / 2 ^ (64 - order.value)) }

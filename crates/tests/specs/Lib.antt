@@ -1,1 +1,3 @@
+pub mod Plain
 pub mod Relays
+pub mod Scattered

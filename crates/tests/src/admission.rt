@@ -1,33 +1,9 @@
 // Which orders and pairs are admitted, and how the others are refused.
+use crate::pair::admitted;
+use crate::refused::check_refused;
 use rule::fault::{Fault, Layer, Reason};
 use rule::order::Order;
-use rule::pair::AdmittedPair;
-use std::process::Abort;
 use std::test::Fail;
-
-fn admitted(order: i64, a: i64, b: i64) -> Result<AdmittedPair, Fault> {
-    AdmittedPair::new(Order::try_from(order)?, a, b)
-}
-
-// The pair is refused with this number, by the frame and at this place.
-fn check_refused(
-    rt: &impl Abort,
-    order: i64,
-    a: i64,
-    b: i64,
-    number: u8,
-    place: usize,
-) -> Result<(), Fail> {
-    match admitted(order, a, b) {
-        Ok(_) => Err(Fail::new("admitted")),
-        Err(fault) => {
-            assert_eq!(rt; fault.reason.number(), number);
-            assert_eq!(rt; fault.layer, Layer::Frame);
-            assert_eq!(rt; fault.place, place);
-            Ok(())
-        }
-    }
-}
 
 #[test]
 fn orders_from_1_to_56(rt: HostRuntime) -> Result<(), Fail> {
@@ -36,7 +12,7 @@ fn orders_from_1_to_56(rt: HostRuntime) -> Result<(), Fail> {
         assert_eq!(rt; order.value(), u16::from(n));
     }
     for n in [0, 57, 58, 65536, -1, i64::MAX, i64::MIN] {
-        check_refused(&rt, n, 0, 1, 4, 3)?;
+        check_refused(&rt, admitted(n, 0, 1), 4, Layer::Frame, 3);
     }
     Ok(())
 }
@@ -48,23 +24,21 @@ fn operands_below_two_to_the_order(rt: HostRuntime) -> Result<(), Fail> {
         let order = i64::from(n);
         let top = 1i64 << n;
         let most = top.wrapping_sub(1);
+        let least = most.wrapping_neg();
         let second = 6 + usize::from(n / 8);
-        for (a, b) in [
-            (most, most),
-            (most.wrapping_neg(), 1),
-            (0, most.wrapping_neg()),
-        ] {
+        for (a, b) in [(most, most), (least, 1), (0, least)] {
             let pair = admitted(order, a, b)?;
-            assert_eq!(rt; pair.a(), a);
-            assert_eq!(rt; pair.b(), b);
-            assert_eq!(rt; pair.order().value(), u16::from(n));
+            assert_eq!(rt;
+                (pair.order().value(), pair.a(), pair.b()),
+                (u16::from(n), a, b)
+            );
         }
         for large in [top, top.wrapping_neg(), i64::MAX, i64::MIN] {
-            check_refused(&rt, order, large, 1, 6, 5)?;
-            check_refused(&rt, order, 1, large, 6, second)?;
-            check_refused(&rt, order, large, 0, 6, 5)?;
+            check_refused(&rt, admitted(order, large, 1), 6, Layer::Frame, 5);
+            check_refused(&rt, admitted(order, 1, large), 6, Layer::Frame, second);
+            check_refused(&rt, admitted(order, large, 0), 6, Layer::Frame, 5);
         }
-        check_refused(&rt, order, 1, 0, 7, second)?;
+        check_refused(&rt, admitted(order, 1, 0), 7, Layer::Frame, second);
     }
     Ok(())
 }

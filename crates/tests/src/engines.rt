@@ -1,55 +1,92 @@
 // The calls of an engine, one by one.
+use crate::pair::admitted;
 use crate::relay::Relay;
 use engine::engine::Engine;
 use engine::word::WordEngine;
 use rule::command::Command;
-use rule::fault::{Fault, Layer, Reason};
-use rule::order::Order;
-use rule::pair::AdmittedPair;
+use rule::fault::{Layer, Reason};
 use std::process::Abort;
 use std::test::Fail;
 
-// What the questions answer: idle, over, a, δ, twos and count.
-fn check_answers<E: Engine>(
-    rt: &impl Abort,
-    engine: &E,
+// What the questions of an engine answer.
+#[derive(Clone, Copy, PartialEq, Eq, Debug)]
+struct Answers {
     idle: bool,
     over: bool,
-    numbers: (i64, i16, u16, u16),
-) {
-    assert_eq!(rt; engine.is_idle(), idle);
-    assert_eq!(rt; engine.is_over(), over);
-    assert_eq!(rt; engine.a(), numbers.0);
-    assert_eq!(rt; engine.delta(), numbers.1);
-    assert_eq!(rt; engine.twos(), numbers.2);
-    assert_eq!(rt; engine.count(), numbers.3);
+    a: i64,
+    delta: i16,
+    twos: u16,
+    count: u16,
+}
+
+// The answers at the start of a run whose a is 0; each other state is written as what differs from it.
+const START: Answers = Answers {
+    idle: false,
+    over: false,
+    a: 0,
+    delta: 0,
+    twos: 0,
+    count: 0,
+};
+
+impl Answers {
+    fn of<E: Engine>(engine: &E) -> Answers {
+        Answers {
+            idle: engine.is_idle(),
+            over: engine.is_over(),
+            a: engine.a(),
+            delta: engine.delta(),
+            twos: engine.twos(),
+            count: engine.count(),
+        }
+    }
 }
 
 // An engine of any kind, from idle to the end of one run and into the next.
 fn check_calls<E: Engine>(rt: &impl Abort, engine: &mut E) -> Result<(), Fail> {
-    check_answers(rt, engine, true, false, (0, 0, 0, 0));
+    let idle = Answers {
+        idle: true,
+        ..START
+    };
+    assert_eq!(rt; Answers::of(engine), idle);
     assert_eq!(rt;
         engine.advance(),
-        Err(Fault::new(Reason::NothingHeld, Layer::Engine, 0))
+        Err(Reason::NothingHeld.by(Layer::Engine))
     );
-    check_answers(rt, engine, true, false, (0, 0, 0, 0));
+    assert_eq!(rt; Answers::of(engine), idle);
 
-    engine.begin(AdmittedPair::new(Order::try_from(3)?, 0, 6)?)?;
-    check_answers(rt, engine, false, false, (0, 0, 0, 0));
-    assert_eq!(rt; engine.advance()?, Command::Both);
-    check_answers(rt, engine, false, false, (0, 0, 1, 1));
-    assert_eq!(rt; engine.advance()?, Command::Cross);
-    check_answers(rt, engine, false, true, (3, 1, 1, 2));
-    assert_eq!(rt;
-        engine.advance(),
-        Err(Fault::new(Reason::RunOver, Layer::Engine, 0))
-    );
-    check_answers(rt, engine, false, true, (3, 1, 1, 2));
+    engine.begin(admitted(3, 0, 6)?)?;
+    assert_eq!(rt; Answers::of(engine), START);
+    assert_eq!(rt; engine.advance(), Ok(Command::Both));
+    let both = Answers {
+        twos: 1,
+        count: 1,
+        ..START
+    };
+    assert_eq!(rt; Answers::of(engine), both);
+    assert_eq!(rt; engine.advance(), Ok(Command::Cross));
+    let over = Answers {
+        over: true,
+        a: 3,
+        delta: 1,
+        twos: 1,
+        count: 2,
+        ..START
+    };
+    assert_eq!(rt; Answers::of(engine), over);
+    assert_eq!(rt; engine.advance(), Err(Reason::RunOver.by(Layer::Engine)));
+    assert_eq!(rt; Answers::of(engine), over);
 
-    engine.begin(AdmittedPair::new(Order::try_from(3)?, 5, 4)?)?;
-    check_answers(rt, engine, false, false, (5, 0, 0, 0));
-    assert_eq!(rt; engine.advance()?, Command::Shift);
-    check_answers(rt, engine, false, false, (5, 1, 0, 1));
+    engine.begin(admitted(3, 5, 4)?)?;
+    assert_eq!(rt; Answers::of(engine), Answers { a: 5, ..START });
+    assert_eq!(rt; engine.advance(), Ok(Command::Shift));
+    let shifted = Answers {
+        a: 5,
+        delta: 1,
+        count: 1,
+        ..START
+    };
+    assert_eq!(rt; Answers::of(engine), shifted);
     Ok(())
 }
 
@@ -62,7 +99,7 @@ fn word_engine(rt: HostRuntime) -> Result<(), Fail> {
 #[test]
 fn engine_over_an_engine(rt: HostRuntime) -> Result<(), Fail> {
     let mut below = WordEngine::new();
-    below.begin(AdmittedPair::new(Order::try_from(3)?, 5, 2)?)?;
+    below.begin(admitted(3, 5, 2)?)?;
     below.advance()?;
     check_calls(&rt, &mut Relay::over(below))
 }

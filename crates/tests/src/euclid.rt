@@ -5,9 +5,7 @@ pub fn euclid(a: i64, b: i64) -> u64 {
     let mut x = a.unsigned_abs();
     let mut y = b.unsigned_abs();
     while y != 0 {
-        let rest = x % y;
-        x = y;
-        y = rest;
+        (x, y) = (y, x % y);
     }
     x
 }

@@ -1,12 +1,11 @@
 // Followers that are told what is not their run.
+use crate::pair::admitted;
 use follower::cofactor::Cofactor;
 use follower::follower::Follower;
 use follower::fraction::Fraction;
 use follower::pair::Pair;
 use rule::command::{Command, Sign};
 use rule::fault::{Fault, Layer, Reason};
-use rule::order::Order;
-use rule::pair::AdmittedPair;
 use std::process::Abort;
 use std::test::Fail;
 
@@ -33,7 +32,7 @@ const COMMANDS: [Command; 7] = [
 ];
 
 fn not_taken() -> Fault {
-    Fault::new(Reason::CommandNotTaken, Layer::Follower, 0)
+    Reason::CommandNotTaken.by(Layer::Follower)
 }
 
 // Before begin no command is taken.
@@ -63,7 +62,7 @@ fn before_begin(rt: HostRuntime) {
 // though the fraction follower alone takes it.
 #[test]
 fn a_foreign_command(rt: HostRuntime) -> Result<(), Fail> {
-    let pair = AdmittedPair::new(Order::try_from(3)?, 5, 2)?;
+    let pair = admitted(3, 5, 2)?;
     let mut cofactor = Cofactor::new();
     cofactor.begin(pair);
     assert!(rt; !cofactor.takes(Command::Both));
@@ -88,17 +87,11 @@ fn a_foreign_command(rt: HostRuntime) -> Result<(), Fail> {
 #[test]
 fn a_foreign_run(rt: HostRuntime) -> Result<(), Fail> {
     let mut cofactor = Cofactor::new();
-    cofactor.begin(AdmittedPair::new(Order::try_from(3)?, 7, 5)?);
+    cofactor.begin(admitted(3, 7, 5)?);
     let command = Command::PlusMinus {
         sign: Sign::Plus,
         exchange: true,
     };
-    let mut taken = 0u16;
-    for _ in 0u8..100 {
-        if cofactor.follow(command).is_ok() {
-            taken = taken.saturating_add(1);
-        }
-    }
-    assert!(rt; taken < 100);
+    assert!(rt; (0u8..100).any(|_| cofactor.follow(command).is_err()));
     Ok(())
 }

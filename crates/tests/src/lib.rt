@@ -12,8 +12,12 @@ pub mod euclid;
 mod followers;
 #[cfg(test)]
 mod frames;
+pub mod pair;
 #[cfg(test)]
 mod reductions;
+#[cfg(test)]
+mod refused;
 pub mod relay;
 #[cfg(test)]
 mod runs;
+pub mod sequence;

@@ -1,51 +1,53 @@
 // Whole reductions: the divisor, the cofactors with their bounds, and the fraction, against Euclid.
 use crate::euclid::euclid;
+use crate::pair::admitted;
+use crate::sequence::Sequence;
 use engine::word::WordEngine;
 use frame::reduction::Reduction;
 use reduction::reduce::reduce;
+use rule::fault::Fault;
 use rule::order::Order;
 use rule::pair::AdmittedPair;
 use std::process::Abort;
 use std::test::Fail;
 
 // The reduction of a pair on a word engine.
-fn reduced(order: i64, a: i64, b: i64) -> Result<Reduction, Fail> {
-    let pair = AdmittedPair::new(Order::try_from(order)?, a, b)?;
+fn reduced(pair: AdmittedPair) -> Result<Reduction, Fault> {
     let (_, reduction) = reduce(&mut WordEngine::new(), pair)?;
     Ok(reduction)
 }
 
 // Everything that a reduction promises, in wide numbers and by Euclid's division algorithm.
-fn check_reduction(rt: &impl Abort, order: i64, a: i64, b: i64) -> Result<(), Fail> {
-    let r = reduced(order, a, b)?;
-    assert_eq!(rt; r.g, euclid(a, b));
-    let (wide_a, wide_b) = (i128::from(a), i128::from(b));
+fn check_reduction(rt: &impl Abort, pair: AdmittedPair) -> Result<(), Fail> {
+    let r = reduced(pair)?;
+    assert_eq!(rt; r.g, euclid(pair.a(), pair.b()));
+    let (a, b) = (i128::from(pair.a()), i128::from(pair.b()));
     let (u, v) = (i128::from(r.u), i128::from(r.v));
     assert_eq!(rt;
-        u.wrapping_mul(wide_a).wrapping_add(v.wrapping_mul(wide_b)),
+        u.wrapping_mul(a).wrapping_add(v.wrapping_mul(b)),
         i128::from(r.g)
     );
     if a != 0 {
-        assert!(rt; u.unsigned_abs().wrapping_mul(2) <= wide_b.unsigned_abs());
-        assert!(rt; v.unsigned_abs().wrapping_mul(2) <= wide_a.unsigned_abs().wrapping_add(1));
+        assert!(rt; u.unsigned_abs().wrapping_mul(2) <= b.unsigned_abs());
+        assert!(rt; v.unsigned_abs().wrapping_mul(2) <= a.unsigned_abs().wrapping_add(1));
     }
     let (p, q) = (i128::from(r.numerator), i128::from(r.denominator));
     assert!(rt; q > 0);
-    assert_eq!(rt; p.wrapping_mul(wide_b), q.wrapping_mul(wide_a));
+    assert_eq!(rt; p.wrapping_mul(b), q.wrapping_mul(a));
     assert_eq!(rt; euclid(r.numerator, r.denominator), 1);
     Ok(())
 }
 
-// The same of both operands in either place and with either sign.
-fn check_all_ways(rt: &impl Abort, order: i64, a: i64, b: i64) -> Result<(), Fail> {
+// The same of both operands in either place and with either sign, where the second is not 0.
+fn check_all_ways(rt: &impl Abort, order: Order, a: i64, b: i64) -> Result<(), Fail> {
     let minus_a = a.wrapping_neg();
     let minus_b = b.wrapping_neg();
     for (x, y) in [(a, b), (a, minus_b), (minus_a, b), (minus_a, minus_b)] {
         if y != 0 {
-            check_reduction(rt, order, x, y)?;
+            check_reduction(rt, AdmittedPair::new(order, x, y)?)?;
         }
         if x != 0 {
-            check_reduction(rt, order, y, x)?;
+            check_reduction(rt, AdmittedPair::new(order, y, x)?)?;
         }
     }
     Ok(())
@@ -54,9 +56,10 @@ fn check_all_ways(rt: &impl Abort, order: i64, a: i64, b: i64) -> Result<(), Fai
 // Every pair of order 5, and so every parity, sign, zero and equality.
 #[test]
 fn every_pair_of_order_five(rt: HostRuntime) -> Result<(), Fail> {
+    let order = Order::try_from(5)?;
     for a in 0i64..32 {
         for b in 0i64..32 {
-            check_all_ways(&rt, 5, a, b)?;
+            check_all_ways(&rt, order, a, b)?;
         }
     }
     Ok(())
@@ -66,11 +69,12 @@ fn every_pair_of_order_five(rt: HostRuntime) -> Result<(), Fail> {
 #[test]
 fn edges_of_every_order(rt: HostRuntime) -> Result<(), Fail> {
     for n in 1u8..=56 {
+        let order = Order::try_from(i64::from(n))?;
         let top = 1i64 << n;
         let most = top.wrapping_sub(1);
         for a in [0, 1, most / 2, top / 2, most.wrapping_sub(1), most] {
             for b in [1, top / 2, most.wrapping_sub(1), most] {
-                check_all_ways(&rt, i64::from(n), a, b)?;
+                check_all_ways(&rt, order, a, b)?;
             }
         }
     }
@@ -79,15 +83,16 @@ fn edges_of_every_order(rt: HostRuntime) -> Result<(), Fail> {
 
 #[test]
 fn published_example(rt: HostRuntime) -> Result<(), Fail> {
-    check_all_ways(&rt, 21, 1759291, 1349639)
+    check_all_ways(&rt, Order::try_from(21)?, 1759291, 1349639)
 }
 
 // Powers of two against each other and against themselves.
 #[test]
 fn powers_of_two(rt: HostRuntime) -> Result<(), Fail> {
+    let order = Order::try_from(56)?;
     for i in 0u8..56 {
         for j in 0u8..=i {
-            check_all_ways(&rt, 56, 1i64 << i, 1i64 << j)?;
+            check_all_ways(&rt, order, 1i64 << i, 1i64 << j)?;
         }
     }
     Ok(())
@@ -96,21 +101,15 @@ fn powers_of_two(rt: HostRuntime) -> Result<(), Fail> {
 // Forty pairs of each order from a fixed sequence, with a common factor put into every second one.
 #[test]
 fn scattered_pairs_of_every_order(rt: HostRuntime) -> Result<(), Fail> {
-    let mut seed: u64 = 0x2545_f491_4f6c_dd1d;
-    for n in 1u8..=56 {
-        for k in 0u8..40 {
-            seed = seed
-                .wrapping_mul(6364136223846793005)
-                .wrapping_add(1442695040888963407);
-            let a = seed >> (64 - n);
-            seed = seed
-                .wrapping_mul(6364136223846793005)
-                .wrapping_add(1442695040888963407);
-            let b = seed >> (64 - n);
-            let common = if k % 2 == 0 { 1 } else { 30 };
-            let a = a / common * common;
-            let b = b / common * common;
-            check_all_ways(&rt, i64::from(n), i64::try_from(a)?, i64::try_from(b)?)?;
+    let mut sequence = Sequence::new();
+    for n in 1i64..=56 {
+        let order = Order::try_from(n)?;
+        for _ in 0u8..20 {
+            for common in [1, 30] {
+                let a = (sequence.operand(order) / common).wrapping_mul(common);
+                let b = (sequence.operand(order) / common).wrapping_mul(common);
+                check_all_ways(&rt, order, a, b)?;
+            }
         }
     }
     Ok(())
@@ -134,11 +133,11 @@ const MARKED: [(i64, i64, i64, u16, u64, i64, i64, i64, i64); 11] = [
 #[test]
 fn marked_pairs(rt: HostRuntime) -> Result<(), Fail> {
     for (order, a, b, count, g, u, v, numerator, denominator) in MARKED {
-        let r = reduced(order, a, b)?;
-        assert_eq!(rt; r.count, count);
-        assert_eq!(rt; r.g, g);
-        assert_eq!(rt; (r.u, r.v), (u, v));
-        assert_eq!(rt; (r.numerator, r.denominator), (numerator, denominator));
+        let r = reduced(admitted(order, a, b)?)?;
+        assert_eq!(rt;
+            (r.count, r.g, r.u, r.v, r.numerator, r.denominator),
+            (count, g, u, v, numerator, denominator)
+        );
     }
     Ok(())
 }

@@ -1,5 +1,5 @@
 // An engine over any engine: idle until its own first begin, whatever the engine below held.
-ghost use Rattle.std.specs.Prelude.{◌≡◌, false};
+ghost use Rattle.std.specs.Prelude.{◌≡◌, true, false, MatchOption};
 ghost use Rattle.tests.specs.Relays.{relayed};
 ghost use Rattle.std.proofs.Common.{rules};
 
@@ -11,6 +11,7 @@ use rule::pair::AdmittedPair;
 #[derive(Drop)]
 pub struct Relay<E> {
     below: E,
+    // A flag, since to begin an enum of two states would have to move the engine out of a `&mut`.
     begun: bool,
 }
 
@@ -23,6 +24,13 @@ impl<E> Relay<E> {
             below,
             begun: false,
         }
+    }
+
+    // The engine below, once this one has begun.
+    fn held(&self) -> Option<&E>
+        ensures { MatchOption result (self.now.begun ≡ false) (λ below. (self.now.begun ≡ true) × (below.now ≡ self.now.below)) }
+    {
+        self.begun.then_some(&self.below)
     }
 }
 
@@ -47,32 +55,32 @@ impl<E: Engine> Engine for Relay<E> {
 
     fn advance(&mut self) -> Result<Command, Fault> {
         if !self.begun {
-            return Err(Fault::new(Reason::NothingHeld, Layer::Engine, 0));
+            return Err(Reason::NothingHeld.by(Layer::Engine));
         }
         self.below.advance()
     }
 
     fn is_idle(&self) -> bool {
-        !self.begun || self.below.is_idle()
+        self.held().is_none_or(|below| below.is_idle())
     }
 
     fn is_over(&self) -> bool {
-        self.begun && self.below.is_over()
+        self.held().is_some_and(|below| below.is_over())
     }
 
     fn a(&self) -> i64 {
-        if self.begun { self.below.a() } else { 0 }
+        self.held().map_or(0, |below| below.a())
     }
 
     fn delta(&self) -> i16 {
-        if self.begun { self.below.delta() } else { 0 }
+        self.held().map_or(0, |below| below.delta())
     }
 
     fn twos(&self) -> u16 {
-        if self.begun { self.below.twos() } else { 0 }
+        self.held().map_or(0, |below| below.twos())
     }
 
     fn count(&self) -> u16 {
-        if self.begun { self.below.count() } else { 0 }
+        self.held().map_or(0, |below| below.count())
     }
 }

@@ -1,15 +1,14 @@
 // How many commands whole runs take.
+use crate::pair::admitted;
 use engine::run::run_to_end;
 use engine::word::WordEngine;
-use rule::order::Order;
+use rule::fault::Fault;
 use rule::pair::AdmittedPair;
 use std::test::Fail;
 
 // How many commands the run of a pair takes on a word engine.
-fn count(order: i64, a: i64, b: i64) -> Result<usize, Fail> {
-    let pair = AdmittedPair::new(Order::try_from(order)?, a, b)?;
-    let run = run_to_end(&mut WordEngine::new(), pair)?;
-    Ok(run.commands.len())
+fn count(pair: AdmittedPair) -> Result<usize, Fault> {
+    Ok(run_to_end(&mut WordEngine::new(), pair)?.commands.len())
 }
 
 // The least order that both operands fit.
@@ -42,7 +41,8 @@ const WORST: [(i64, i64, usize); 16] = [
 #[test]
 fn worst_cases_take_two_commands_more_than_their_cells(rt: HostRuntime) -> Result<(), Fail> {
     for (a, b, cells) in WORST {
-        assert_eq!(rt; count(least_order(a, b), a, b)?, cells.saturating_add(2));
+        let pair = admitted(least_order(a, b), a, b)?;
+        assert_eq!(rt; count(pair)?, cells.saturating_add(2));
     }
     Ok(())
 }
@@ -57,7 +57,7 @@ fn near_three_quarters_of_every_order(rt: HostRuntime) -> Result<(), Fail> {
         } else {
             (z.wrapping_sub(1), z.wrapping_add(1), 3 * usize::from(n) - 2)
         };
-        assert_eq!(rt; count(i64::from(n), a, b)?, commands);
+        assert_eq!(rt; count(admitted(i64::from(n), a, b)?)?, commands);
     }
     Ok(())
 }

@@ -1,8 +1,9 @@
 // Buffers of every fit: too short by any number of bytes, exact, and much too long.
-use crate::tried::*;
+use crate::bench::Bench;
+use crate::tried::{Outcome, RESULT, TOO_SHORT, Tried};
 use engine::word::WordEngine;
-use std::test::*;
-use unit::unit::Unit;
+use std::test::Fail;
+use tests::pair::admitted;
 
 // The results of the pair 5, 2 at orders where a number takes one byte, two, and eight.
 static RESULTS: [(i64, &[u8]); 4] = [
@@ -26,19 +27,19 @@ static RESULTS: [(i64, &[u8]); 4] = [
 // A result can be collected again and again, and what does not fit is refused; what a collect leaves of the buffer is checked with its answer.
 #[test]
 fn buffers_of_every_length(rt: HostRuntime) -> Result<(), Fail> {
-    let mut unit = Unit::over(WordEngine::new());
-    for (order, result) in &RESULTS {
-        load_pair(&rt, &mut unit, *order, 5, 2)?;
-        check_call(&rt, &mut unit, Tried::Work(64), Outcome::Worked(4, true))?;
+    let mut bench = Bench::over(&rt, WordEngine::new());
+    for (order, result) in RESULTS {
+        bench.load(admitted(order, 5, 2)?)?;
+        bench.check(Tried::Work(64), Outcome::Worked(4, true));
         for length in 0usize..=200 {
             let outcome = if length < result.len() {
                 TOO_SHORT
             } else {
                 Outcome::Collected(result)
             };
-            check_call(&rt, &mut unit, Tried::Collect(length), outcome)?;
+            bench.check(Tried::Collect(length), outcome);
         }
-        check_call(&rt, &mut unit, Tried::Clear, Outcome::Done)?;
+        bench.check(Tried::Clear, Outcome::Done);
     }
     Ok(())
 }

@@ -7,6 +7,9 @@ use rule::command::Command;
 use rule::fault::{Fault, Layer, Reason};
 use rule::pair::AdmittedPair;
 
+// No parameter of the type, since an engine has to take at least the order 1.
+const MOST: u16 = 12;
+
 #[derive(Drop)]
 pub struct Capped<E> {
     below: E,
@@ -21,7 +24,7 @@ impl<E> Capped<E> {
 }
 
 impl<E: Engine> Engine for Capped<E> {
-    const LARGEST: u16 = if E::LARGEST < 12 { E::LARGEST } else { 12 };
+    const LARGEST: u16 = if E::LARGEST < MOST { E::LARGEST } else { MOST };
 
     ghost meaning = { λ s. E.Engine.meaning s.below };
 
@@ -30,12 +33,12 @@ impl<E: Engine> Engine for Capped<E> {
     ghost roomy = { Prim.search rules };
 
     fn largest_order() -> u16 {
-        E::largest_order().min(12)
+        E::largest_order().min(MOST)
     }
 
     fn begin(&mut self, pair: AdmittedPair) -> Result<(), Fault> {
-        if pair.order().value() > 12 {
-            return Err(Fault::new(Reason::OrderAboveLargest, Layer::Engine, 0));
+        if pair.order().value() > MOST {
+            return Err(Reason::OrderAboveLargest.by(Layer::Engine));
         }
         self.below.begin(pair)
     }

@@ -1,178 +1,163 @@
 // What is refused: each call in each state of a unit, numbers far out of range, frames, and orders that an engine does not take.
+use crate::bench::Bench;
 use crate::capped::Capped;
-use crate::tried::*;
+use crate::tried::{
+    EVEN_PAIR, HELD, IS_OVER, NOT_OVER, NOTHING, OUT_OF_RANGE, Outcome, PAIR, RESULT, TOO_SHORT,
+    Tried,
+};
 use engine::engine::Engine;
 use engine::word::WordEngine;
 use rule::fault::Layer;
 use std::process::Abort;
-use std::test::*;
 use tests::relay::Relay;
-use unit::unit::{Followers, Unit};
+
+// A state of a unit: the calls that bring a new unit there, and the calls that go on from there to the result.
+struct State {
+    before: &'static [(Tried, Outcome<'static>)],
+    after: &'static [(Tried, Outcome<'static>)],
+}
+
+const LOAD: (Tried, Outcome<'static>) = (Tried::Load(PAIR), Outcome::Loaded(3, 5, 2));
+
+const COLLECT: (Tried, Outcome<'static>) = (Tried::Collect(14), Outcome::Collected(RESULT));
 
 // A unit with nothing, or with the pair 5, 2 and none, two or all four of its commands done.
-#[derive(Clone, Copy)]
-enum State {
-    Empty,
-    Loaded,
-    Middle,
-    Over,
-}
-
-fn check_load(rt: &impl Abort, unit: &mut Unit<WordEngine, Followers>) -> Result<(), Fail> {
-    check_call(rt, unit, Tried::Load(PAIR), Outcome::Loaded(3, 5, 2))
-}
+static STATES: [State; 4] = [
+    State {
+        before: &[],
+        after: &[
+            (Tried::Collect(14), NOTHING),
+            LOAD,
+            (Tried::Work(64), Outcome::Worked(4, true)),
+            COLLECT,
+        ],
+    },
+    State {
+        before: &[LOAD],
+        after: &[
+            (Tried::Collect(14), NOT_OVER),
+            (Tried::Work(64), Outcome::Worked(4, true)),
+            COLLECT,
+        ],
+    },
+    State {
+        before: &[LOAD, (Tried::Work(2), Outcome::Worked(2, false))],
+        after: &[
+            (Tried::Collect(14), NOT_OVER),
+            (Tried::Work(64), Outcome::Worked(2, true)),
+            COLLECT,
+        ],
+    },
+    State {
+        before: &[LOAD, (Tried::Work(4), Outcome::Worked(4, true))],
+        after: &[(Tried::Work(64), IS_OVER), COLLECT],
+    },
+];
 
 impl State {
-    // A new unit, brought to this state.
-    fn unit(self, rt: &impl Abort) -> Result<Unit<WordEngine, Followers>, Fail> {
-        let mut unit = Unit::over(WordEngine::new());
-        match self {
-            State::Empty => {}
-            State::Loaded => check_load(rt, &mut unit)?,
-            State::Middle => {
-                check_load(rt, &mut unit)?;
-                check_call(rt, &mut unit, Tried::Work(2), Outcome::Worked(2, false))?;
-            }
-            State::Over => {
-                check_load(rt, &mut unit)?;
-                check_call(rt, &mut unit, Tried::Work(4), Outcome::Worked(4, true))?;
-            }
+    // A unit in this state answers so, and where it refuses it is as it was, with the stint of a new one.
+    fn check(&self, rt: &impl Abort, call: Tried, outcome: Outcome) {
+        let mut bench = Bench::over(rt, WordEngine::new());
+        bench.check_all(self.before);
+        bench.check(call, outcome);
+        if matches!(outcome, Outcome::Refused(..)) {
+            assert_eq!(rt; bench.unit.most(), 64);
+            bench.check_all(self.after);
         }
-        Ok(unit)
-    }
-
-    // The unit is still in this state, with the stint of a new one: it goes on from there to the result.
-    fn check_kept(
-        self,
-        rt: &impl Abort,
-        unit: &mut Unit<WordEngine, Followers>,
-    ) -> Result<(), Fail> {
-        assert_eq!(rt; unit.most(), 64);
-        match self {
-            State::Empty => {
-                check_call(rt, unit, Tried::Collect(14), NOTHING)?;
-                check_load(rt, unit)?;
-                check_call(rt, unit, Tried::Work(64), Outcome::Worked(4, true))?;
-            }
-            State::Loaded => {
-                check_call(rt, unit, Tried::Collect(14), NOT_OVER)?;
-                check_call(rt, unit, Tried::Work(64), Outcome::Worked(4, true))?;
-            }
-            State::Middle => {
-                check_call(rt, unit, Tried::Collect(14), NOT_OVER)?;
-                check_call(rt, unit, Tried::Work(64), Outcome::Worked(2, true))?;
-            }
-            State::Over => check_call(rt, unit, Tried::Work(64), IS_OVER)?,
-        }
-        check_call(rt, unit, Tried::Collect(14), Outcome::Collected(RESULT))
     }
 }
 
 // What one call answers to a unit that is empty, loaded, in the middle, and over.
-type Outcomes = (Outcome, Outcome, Outcome, Outcome);
+type Outcomes = [Outcome<'static>; 4];
 
-// A unit in this state answers so, and where it refuses it is as it was.
-fn check_in(rt: &impl Abort, state: State, call: Tried, outcome: Outcome) -> Result<(), Fail> {
-    let mut unit = state.unit(rt)?;
-    check_call(rt, &mut unit, call, outcome)?;
-    if let Outcome::Refused(..) = outcome {
-        state.check_kept(rt, &mut unit)?;
+fn check_in_every_state(rt: &impl Abort, call: Tried, outcomes: &Outcomes) {
+    for (state, outcome) in STATES.iter().zip(outcomes) {
+        state.check(rt, call, *outcome);
     }
-    Ok(())
 }
 
-fn check_in_every_state(rt: &impl Abort, call: Tried, outcomes: Outcomes) -> Result<(), Fail> {
-    let (empty, loaded, middle, over) = outcomes;
-    check_in(rt, State::Empty, call, empty)?;
-    check_in(rt, State::Loaded, call, loaded)?;
-    check_in(rt, State::Middle, call, middle)?;
-    check_in(rt, State::Over, call, over)
-}
-
-static CALLS: [(Tried, Outcomes); 17] = [
+// Calls, each with what it answers in each state.
+static CALLS: [(Tried, &Outcomes); 17] = [
     (
         Tried::Load(PAIR),
-        (Outcome::Loaded(3, 5, 2), HELD, HELD, HELD),
+        &[Outcome::Loaded(3, 5, 2), HELD, HELD, HELD],
     ),
     (
         Tried::Load(EVEN_PAIR),
-        (Outcome::Loaded(5, 12, 18), HELD, HELD, HELD),
+        &[Outcome::Loaded(5, 12, 18), HELD, HELD, HELD],
     ),
     (
         Tried::Load(&[]),
-        (Outcome::Refused(1, Layer::Frame, 0), HELD, HELD, HELD),
+        &[Outcome::Refused(1, Layer::Frame, 0), HELD, HELD, HELD],
     ),
-    (
-        Tried::Stint(1),
-        (Outcome::Done, Outcome::Done, Outcome::Done, Outcome::Done),
-    ),
-    (
-        Tried::Stint(225),
-        (Outcome::Done, Outcome::Done, Outcome::Done, Outcome::Done),
-    ),
+    (Tried::Stint(1), &[Outcome::Done; 4]),
+    (Tried::Stint(225), &[Outcome::Done; 4]),
     (
         Tried::Work(1),
-        (
+        &[
             NOTHING,
             Outcome::Worked(1, false),
             Outcome::Worked(1, false),
             IS_OVER,
-        ),
+        ],
     ),
     (
         Tried::Work(2),
-        (
+        &[
             NOTHING,
             Outcome::Worked(2, false),
             Outcome::Worked(2, true),
             IS_OVER,
-        ),
+        ],
     ),
     (
         Tried::Work(3),
-        (
+        &[
             NOTHING,
             Outcome::Worked(3, false),
             Outcome::Worked(2, true),
             IS_OVER,
-        ),
+        ],
     ),
     (
         Tried::Work(64),
-        (
+        &[
             NOTHING,
             Outcome::Worked(4, true),
             Outcome::Worked(2, true),
             IS_OVER,
-        ),
+        ],
     ),
     (
         Tried::Work(65),
-        (NOTHING, OUT_OF_RANGE, OUT_OF_RANGE, IS_OVER),
+        &[NOTHING, OUT_OF_RANGE, OUT_OF_RANGE, IS_OVER],
     ),
     (
         Tried::Work(225),
-        (NOTHING, OUT_OF_RANGE, OUT_OF_RANGE, IS_OVER),
+        &[NOTHING, OUT_OF_RANGE, OUT_OF_RANGE, IS_OVER],
     ),
-    (Tried::Collect(0), (NOTHING, NOT_OVER, NOT_OVER, TOO_SHORT)),
-    (Tried::Collect(1), (NOTHING, NOT_OVER, NOT_OVER, TOO_SHORT)),
-    (Tried::Collect(13), (NOTHING, NOT_OVER, NOT_OVER, TOO_SHORT)),
+    (Tried::Collect(0), &[NOTHING, NOT_OVER, NOT_OVER, TOO_SHORT]),
+    (Tried::Collect(1), &[NOTHING, NOT_OVER, NOT_OVER, TOO_SHORT]),
+    (
+        Tried::Collect(13),
+        &[NOTHING, NOT_OVER, NOT_OVER, TOO_SHORT],
+    ),
     (
         Tried::Collect(14),
-        (NOTHING, NOT_OVER, NOT_OVER, Outcome::Collected(RESULT)),
+        &[NOTHING, NOT_OVER, NOT_OVER, Outcome::Collected(RESULT)],
     ),
     (
         Tried::Collect(256),
-        (NOTHING, NOT_OVER, NOT_OVER, Outcome::Collected(RESULT)),
+        &[NOTHING, NOT_OVER, NOT_OVER, Outcome::Collected(RESULT)],
     ),
     (
         Tried::Clear,
-        (NOTHING, Outcome::Done, Outcome::Done, Outcome::Done),
+        &[NOTHING, Outcome::Done, Outcome::Done, Outcome::Done],
     ),
 ];
 
 // Numbers that are neither a stint nor a budget; cut to 8, 16 or 32 bits, or taken as signed, many would be.
-static FAR: [u64; 16] = [
+const FAR: [u64; 16] = [
     0,
     226,
     255,
@@ -192,28 +177,23 @@ static FAR: [u64; 16] = [
 ];
 
 #[test]
-fn every_call_in_every_state(rt: HostRuntime) -> Result<(), Fail> {
+fn every_call_in_every_state(rt: HostRuntime) {
     for (call, outcomes) in &CALLS {
-        check_in_every_state(&rt, *call, *outcomes)?;
+        check_in_every_state(&rt, *call, outcomes);
     }
-    for far in &FAR {
+    for far in FAR {
+        check_in_every_state(&rt, Tried::Stint(far), &[OUT_OF_RANGE; 4]);
         check_in_every_state(
             &rt,
-            Tried::Stint(*far),
-            (OUT_OF_RANGE, OUT_OF_RANGE, OUT_OF_RANGE, OUT_OF_RANGE),
-        )?;
-        check_in_every_state(
-            &rt,
-            Tried::Work(*far),
-            (NOTHING, OUT_OF_RANGE, OUT_OF_RANGE, IS_OVER),
-        )?;
+            Tried::Work(far),
+            &[NOTHING, OUT_OF_RANGE, OUT_OF_RANGE, IS_OVER],
+        );
     }
-    Ok(())
 }
 
 // Frames, with the number of the refusal and the place. Order 13 has two bytes for each operand, order 56 has eight. In most of them
 // something further on is wrong too, or the order is above 12.
-static FRAMES: [(&[u8], u8, usize); 24] = [
+const FRAMES: [(&[u8], u8, usize); 24] = [
     (&[], 1, 0),
     (&[7], 1, 1),
     (&[0, 0], 1, 2),
@@ -252,34 +232,34 @@ static FRAMES: [(&[u8], u8, usize); 24] = [
     ),
 ];
 
-// An empty unit refuses each of the frames for what is wrong with it, and stays empty; one that holds a pair does not look at them.
-fn check_frames<E: Engine>(rt: &impl Abort, unit: &mut Unit<E, Followers>) -> Result<(), Fail> {
-    for (frame, number, place) in &FRAMES {
-        check_call(
-            rt,
-            unit,
-            Tried::Load(frame),
-            Outcome::Refused(*number, Layer::Frame, *place),
-        )?;
-        assert!(rt; unit.is_empty());
+impl<R: Abort, E: Engine> Bench<'_, R, E> {
+    // An empty unit refuses each of the frames for what is wrong with it, and stays empty; one that holds a pair does not look at them.
+    fn check_frames(&mut self) {
+        for (frame, number, place) in FRAMES {
+            self.check(
+                Tried::Load(frame),
+                Outcome::Refused(number, Layer::Frame, place),
+            );
+            assert!(self.rt; self.unit.is_empty());
+        }
+        self.check(Tried::Load(PAIR), Outcome::Loaded(3, 5, 2));
+        for (frame, _, _) in FRAMES {
+            self.check(Tried::Load(frame), HELD);
+        }
+        self.check(Tried::Work(64), Outcome::Worked(4, true));
+        self.check(Tried::Collect(14), Outcome::Collected(RESULT));
+        self.check(Tried::Clear, Outcome::Done);
     }
-    check_call(rt, unit, Tried::Load(PAIR), Outcome::Loaded(3, 5, 2))?;
-    for (frame, _, _) in &FRAMES {
-        check_call(rt, unit, Tried::Load(frame), HELD)?;
-    }
-    check_call(rt, unit, Tried::Work(64), Outcome::Worked(4, true))?;
-    check_call(rt, unit, Tried::Collect(14), Outcome::Collected(RESULT))?;
-    check_call(rt, unit, Tried::Clear, Outcome::Done)
 }
 
 #[test]
-fn frames_through_load(rt: HostRuntime) -> Result<(), Fail> {
-    check_frames(&rt, &mut Unit::over(WordEngine::new()))?;
-    check_frames(&rt, &mut Unit::over(Relay::over(WordEngine::new())))?;
-    check_frames(&rt, &mut Unit::over(Capped::over(WordEngine::new())))
+fn frames_through_load(rt: HostRuntime) {
+    Bench::over(&rt, WordEngine::new()).check_frames();
+    Bench::over(&rt, Relay::over(WordEngine::new())).check_frames();
+    Bench::over(&rt, Capped::over(WordEngine::new())).check_frames();
 }
 
-const ABOVE: Outcome = Outcome::Refused(25, Layer::Engine, 0);
+const ABOVE: Outcome<'static> = Outcome::Refused(25, Layer::Engine, 0);
 
 // The pair 5, 2 of order 12 and the frame of its result, and of the orders 13 and 56.
 const TWELVE: &[u8] = &[0, 7, 1, 0, 12, 0, 5, 0, 2];
@@ -320,19 +300,9 @@ static CAPPED: [(Tried, Outcome); 22] = [
     ),
 ];
 
-fn check_capped<E: Engine>(rt: &impl Abort, unit: &mut Unit<E, Followers>) -> Result<(), Fail> {
-    check_calls(rt, unit, &CAPPED)
-}
-
 #[test]
-fn orders_above_the_engines_largest(rt: HostRuntime) -> Result<(), Fail> {
-    check_capped(&rt, &mut Unit::over(Capped::over(WordEngine::new())))?;
-    check_capped(
-        &rt,
-        &mut Unit::over(Relay::over(Capped::over(WordEngine::new()))),
-    )?;
-    check_capped(
-        &rt,
-        &mut Unit::over(Capped::over(Relay::over(WordEngine::new()))),
-    )
+fn orders_above_the_engines_largest(rt: HostRuntime) {
+    Bench::over(&rt, Capped::over(WordEngine::new())).check_all(&CAPPED);
+    Bench::over(&rt, Relay::over(Capped::over(WordEngine::new()))).check_all(&CAPPED);
+    Bench::over(&rt, Capped::over(Relay::over(WordEngine::new()))).check_all(&CAPPED);
 }

@@ -1,15 +1,18 @@
 // Lists of calls: what each call answers, on two engines, and the lists that are not performed.
-use crate::tried::*;
+use crate::bench::Bench;
+use crate::tried::{
+    EVEN_PAIR, EVEN_RESULT, FILLING, HELD, IS_OVER, NOT_OVER, NOTHING, OUT_OF_RANGE, Outcome, PAIR,
+    RESULT, TOO_SHORT, Tried,
+};
 use engine::engine::Engine;
 use engine::word::WordEngine;
 use rule::fault::Layer;
 use session::call::{Answer, Call};
 use session::perform::{Unperformed, perform};
-use std::alloc::Global;
+use std::alloc::{AllocError, Global};
 use std::process::Abort;
-use std::test::*;
+use std::test::Fail;
 use tests::relay::Relay;
-use unit::unit::{Followers, Unit};
 
 // A list with every call and every refusal of the unit. At its end two commands of the pair 5, 2 are done.
 static LIST: [(Tried, Outcome); 27] = [
@@ -60,99 +63,84 @@ static AFTER: [(Tried, Outcome); 4] = [
 ];
 
 // The call as a list holds it.
-fn call_of(heap: Global, tried: Tried) -> Result<Call, Fail> {
-    match tried {
-        Tried::Load(frame) => Ok(Call::Load(frame.to_vec(heap)?)),
-        Tried::Stint(most) => Ok(Call::Stint(most)),
-        Tried::Work(budget) => Ok(Call::Work(budget)),
-        Tried::Collect(length) => Ok(Call::Collect(vec![in heap; FILLING; length]?)),
-        Tried::Clear => Ok(Call::Clear),
-    }
+fn call_of(heap: Global, tried: Tried) -> Result<Call, AllocError> {
+    Ok(match tried {
+        Tried::Load(frame) => Call::Load(frame.to_vec(heap)?),
+        Tried::Stint(most) => Call::Stint(most),
+        Tried::Work(budget) => Call::Work(budget),
+        Tried::Collect(length) => Call::Collect(vec![in heap; FILLING; length]?),
+        Tried::Clear => Call::Clear,
+    })
 }
 
-fn list(heap: Global) -> Result<Vec<Call>, Fail> {
-    let mut calls = Vec::new(heap);
-    for (tried, _) in &LIST {
-        calls.push(call_of(heap, *tried)?)?;
-    }
-    Ok(calls)
+fn list(heap: Global) -> Result<Vec<Call>, AllocError> {
+    LIST.iter()
+        .map(|(tried, _)| -> Result<Call, AllocError> { call_of(heap, *tried) })
+        .try_collect(heap)
 }
 
 // Room for the answers to the list.
-fn room(heap: Global) -> Result<Vec<Answer>, Fail> {
-    Ok(Vec::with_capacity(heap, LIST.len())?)
+fn room(heap: Global) -> Result<Vec<Answer>, AllocError> {
+    Vec::with_capacity(heap, LIST.len())
 }
 
-fn check_answer(
-    rt: &impl Abort,
-    call: Tried,
-    outcome: Outcome,
-    answer: Answer,
-) -> Result<(), Fail> {
-    match (call, answer) {
-        (Tried::Load(_), Answer::Loaded(answer)) => outcome.check_loaded(rt, answer),
-        (Tried::Stint(_), Answer::Stinted(answer)) => outcome.check_done(rt, answer),
-        (Tried::Work(_), Answer::Worked(answer)) => outcome.check_worked(rt, answer),
-        (Tried::Collect(length), Answer::Collected(answer, buffer)) => {
-            assert_eq!(rt; buffer.len(), length);
-            outcome.check_collected(rt, answer, buffer.as_slice())
+impl<R: Abort + AllocGlobal, E: Engine> Bench<'_, R, E> {
+    fn check_answer(&self, call: Tried, outcome: Outcome, answer: Answer) -> Result<(), Fail> {
+        match (call, answer) {
+            (Tried::Load(_), Answer::Loaded(answer)) => {
+                assert_eq!(self.rt; Outcome::of(answer), outcome);
+            }
+            (Tried::Work(_), Answer::Worked(answer)) => {
+                assert_eq!(self.rt; Outcome::of(answer), outcome);
+            }
+            (Tried::Stint(_), Answer::Stinted(answer)) | (Tried::Clear, Answer::Cleared(answer)) =>
+                {
+                    assert_eq!(self.rt; Outcome::of(answer), outcome);
+                }
+            (Tried::Collect(length), Answer::Collected(answer, buffer)) => {
+                assert_eq!(self.rt; buffer.len(), length);
+                assert_eq!(self.rt;
+                    Outcome::of_collect(self.rt, answer, buffer.as_slice()),
+                    outcome
+                );
+            }
+            _ => return Err(Fail::new("the answer of another call")),
         }
-        (Tried::Clear, Answer::Cleared(answer)) => outcome.check_done(rt, answer),
-        _ => Err(Fail::new("the answer of another call")),
+        Ok(())
     }
-}
 
-// The answers to the list, one for each call and in their order.
-fn check_answers(rt: &impl Abort, answers: Vec<Answer>) -> Result<(), Fail> {
-    let mut expected = LIST.iter();
-    for answer in answers {
-        let Some((call, outcome)) = expected.next() else {
-            return Err(Fail::new("an answer too many"));
-        };
-        check_answer(rt, *call, *outcome, answer)?;
-    }
-    assert!(rt; expected.next().is_none(), "an answer too few");
-    Ok(())
-}
-
-// The calls are not performed, for this reason.
-fn check_unperformed<E: Engine>(
-    rt: &impl Abort,
-    unit: &mut Unit<E, Followers>,
-    calls: Vec<Call>,
-    room: Vec<Answer>,
-    why: Unperformed,
-) -> Result<(), Fail> {
-    match perform(unit, calls, room) {
-        Ok(_) => Err(Fail::new("performed")),
-        Err(given) => {
-            assert_eq!(rt; given, why);
-            Ok(())
+    // The list is performed, with one answer for each call, in their order.
+    fn check_performed(&mut self) -> Result<(), Fail> {
+        let heap = self.rt.alloc();
+        let answers = perform(&mut self.unit, list(heap)?, room(heap)?)?;
+        assert_eq!(self.rt; answers.len(), LIST.len());
+        for ((call, outcome), answer) in LIST.iter().zip(answers) {
+            self.check_answer(*call, *outcome, answer)?;
         }
+        Ok(())
     }
-}
 
-// The list on an empty unit; then no list is performed on it, and it goes on where the list left it.
-fn check_list<E: Engine>(
-    rt: &impl Abort,
-    heap: Global,
-    unit: &mut Unit<E, Followers>,
-) -> Result<(), Fail> {
-    assert!(rt; perform(unit, Vec::new(heap), Vec::new(heap))?.is_empty());
-    check_unperformed(rt, unit, list(heap)?, Vec::new(heap), Unperformed::NoRoom)?;
-    check_answers(rt, perform(unit, list(heap)?, room(heap)?)?)?;
-    check_unperformed(rt, unit, list(heap)?, room(heap)?, Unperformed::PairHeld)?;
-    check_unperformed(rt, unit, Vec::new(heap), room(heap)?, Unperformed::PairHeld)?;
-    check_calls(rt, unit, &AFTER)
+    // The calls are not performed, for this reason.
+    fn check_unperformed(&mut self, calls: Vec<Call>, room: Vec<Answer>, why: Unperformed) {
+        assert_eq!(self.rt; perform(&mut self.unit, calls, room).err(), Some(why));
+    }
+
+    // The list on an empty unit; then no list is performed on it, and it goes on where the list left it.
+    fn check_list(&mut self) -> Result<(), Fail> {
+        let heap = self.rt.alloc();
+        assert!(self.rt; perform(&mut self.unit, Vec::new(heap), Vec::new(heap))?.is_empty());
+        self.check_unperformed(list(heap)?, Vec::new(heap), Unperformed::NoRoom);
+        self.check_performed()?;
+        self.check_unperformed(list(heap)?, room(heap)?, Unperformed::PairHeld);
+        self.check_unperformed(Vec::new(heap), room(heap)?, Unperformed::PairHeld);
+        self.check_all(&AFTER);
+        Ok(())
+    }
 }
 
 // A list finds the stint that the one before it left, so the units are new.
 #[test]
 fn lists_on_two_engines(rt: HostRuntime) -> Result<(), Fail> {
-    check_list(&rt, rt.alloc(), &mut Unit::over(WordEngine::new()))?;
-    check_list(
-        &rt,
-        rt.alloc(),
-        &mut Unit::over(Relay::over(WordEngine::new())),
-    )
+    Bench::over(&rt, WordEngine::new()).check_list()?;
+    Bench::over(&rt, Relay::over(WordEngine::new())).check_list()
 }

@@ -1,50 +1,51 @@
 // Frames one behind the other, each reduced on its own by one unit.
-use crate::tried::*;
+use crate::bench::Bench;
+use crate::tried::{
+    EVEN_PAIR, EVEN_RESULT, FILLING, HELD, Outcome, PAIR, RESULT, TOO_SHORT, Tried,
+};
 use engine::engine::Engine;
 use engine::word::WordEngine;
 use frame::cut::Frames;
 use rule::fault::Layer;
 use session::reduce::reduce_frame;
-use std::alloc::Global;
 use std::process::Abort;
-use std::test::*;
+use std::test::Fail;
 use tests::relay::Relay;
-use unit::unit::{Followers, Unit};
 
-// One frame through the unit, which is empty afterwards.
-fn check_frame<E: Engine>(
-    rt: &impl Abort,
-    unit: &mut Unit<E, Followers>,
-    frame: &[u8],
-    outcome: Outcome,
-) -> Result<(), Fail> {
-    let mut buffer = [FILLING; 60];
-    outcome.check_collected(rt, reduce_frame(unit, frame, &mut buffer), &buffer)?;
-    assert!(rt; unit.is_empty());
-    Ok(())
+impl<R: Abort, E: Engine> Bench<'_, R, E> {
+    // One frame through the unit, into a buffer of so many bytes.
+    fn check_reduced(&mut self, frame: &[u8], length: usize, outcome: Outcome) {
+        let mut room = [FILLING; 60];
+        let buffer = room.get_mut(..length).expect(self.rt, "a buffer above 60");
+        let answer = reduce_frame(&mut self.unit, frame, buffer);
+        assert_eq!(self.rt; Outcome::of_collect(self.rt, answer, buffer), outcome);
+    }
 }
 
-// The pieces, put one behind the other, are cut into just these pieces again, and each is reduced or refused as it should be.
-fn check_input<E: Engine>(
-    rt: &impl Abort,
-    heap: Global,
-    unit: &mut Unit<E, Followers>,
-    pieces: &[(&[u8], Outcome)],
-) -> Result<(), Fail> {
-    let mut input = Vec::new(heap);
-    for (piece, _) in pieces {
-        input.extend_from_slice(piece)?;
+impl<R: Abort + AllocGlobal, E: Engine> Bench<'_, R, E> {
+    // The pieces, put one behind the other, are cut into just these pieces again, and each is reduced or refused as it should be, which
+    // leaves the unit empty.
+    fn check_input(&mut self, pieces: &[(&[u8], Outcome)]) -> Result<(), Fail> {
+        let mut input = Vec::new(self.rt.alloc());
+        for (piece, _) in pieces {
+            input.extend_from_slice(piece)?;
+        }
+        let cut = pieces.iter().map(|(piece, _)| *piece);
+        assert!(self.rt; Frames::of(input.as_slice()).eq(cut));
+        for (piece, outcome) in pieces {
+            self.check_reduced(piece, 60, *outcome);
+            assert!(self.rt; self.unit.is_empty());
+        }
+        Ok(())
     }
-    let mut expected = pieces.iter();
-    for frame in Frames::of(input.as_slice()) {
-        let Some((piece, outcome)) = expected.next() else {
-            return Err(Fail::new("a piece too many"));
-        };
-        assert!(rt; frame == *piece);
-        check_frame(rt, unit, frame, *outcome)?;
+
+    fn check_inputs(&mut self) -> Result<(), Fail> {
+        self.check_input(&[])?;
+        self.check_input(&MIXED)?;
+        self.check_input(&PROMISED)?;
+        self.check_input(&PROMISED_SHORT)?;
+        self.check_input(&SHIFTED)
     }
-    assert!(rt; expected.next().is_none(), "a piece too few");
-    Ok(())
 }
 
 // Good frames among refused ones, a length of 0 and a lone last byte. The results are those of marked pairs (docs/RULE.md).
@@ -105,48 +106,22 @@ static SHIFTED: [(&[u8], Outcome); 2] = [
     ),
 ];
 
-fn check_inputs<E: Engine>(
-    rt: &impl Abort,
-    heap: Global,
-    unit: &mut Unit<E, Followers>,
-) -> Result<(), Fail> {
-    check_input(rt, heap, unit, &[])?;
-    check_input(rt, heap, unit, &MIXED)?;
-    check_input(rt, heap, unit, &PROMISED)?;
-    check_input(rt, heap, unit, &PROMISED_SHORT)?;
-    check_input(rt, heap, unit, &SHIFTED)
-}
-
 // With the first stint and with the least; then with a pair held, which is left alone, and with a buffer too short for the result.
 #[test]
 fn inputs_of_many_frames(rt: HostRuntime) -> Result<(), Fail> {
-    let mut unit = Unit::over(WordEngine::new());
-    check_inputs(&rt, rt.alloc(), &mut unit)?;
-    check_inputs(
-        &rt,
-        rt.alloc(),
-        &mut Unit::over(Relay::over(WordEngine::new())),
-    )?;
-    check_call(&rt, &mut unit, Tried::Stint(1), Outcome::Done)?;
-    check_inputs(&rt, rt.alloc(), &mut unit)?;
-    let mut short = [FILLING; 13];
-    TOO_SHORT.check_collected(&rt, reduce_frame(&mut unit, PAIR, &mut short), &short)?;
-    assert!(rt; unit.is_empty());
-    check_call(
-        &rt,
-        &mut unit,
-        Tried::Load(EVEN_PAIR),
-        Outcome::Loaded(5, 12, 18),
-    )?;
-    HELD.check_collected(&rt, reduce_frame(&mut unit, PAIR, &mut short), &short)?;
-    check_call(&rt, &mut unit, Tried::Work(1), Outcome::Worked(1, false))?;
-    HELD.check_collected(&rt, reduce_frame(&mut unit, &[], &mut short), &short)?;
-    check_call(&rt, &mut unit, Tried::Stint(4), Outcome::Done)?;
-    check_call(&rt, &mut unit, Tried::Work(4), Outcome::Worked(4, true))?;
-    check_call(
-        &rt,
-        &mut unit,
-        Tried::Collect(14),
-        Outcome::Collected(EVEN_RESULT),
-    )
+    let mut bench = Bench::over(&rt, WordEngine::new());
+    bench.check_inputs()?;
+    Bench::over(&rt, Relay::over(WordEngine::new())).check_inputs()?;
+    bench.check(Tried::Stint(1), Outcome::Done);
+    bench.check_inputs()?;
+    bench.check_reduced(PAIR, 13, TOO_SHORT);
+    assert!(rt; bench.unit.is_empty());
+    bench.check(Tried::Load(EVEN_PAIR), Outcome::Loaded(5, 12, 18));
+    bench.check_reduced(PAIR, 13, HELD);
+    bench.check(Tried::Work(1), Outcome::Worked(1, false));
+    bench.check_reduced(&[], 13, HELD);
+    bench.check(Tried::Stint(4), Outcome::Done);
+    bench.check(Tried::Work(4), Outcome::Worked(4, true));
+    bench.check(Tried::Collect(14), Outcome::Collected(EVEN_RESULT));
+    Ok(())
 }

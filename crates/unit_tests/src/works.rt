@@ -1,15 +1,17 @@
 // One run cut into works in many ways, and one pair after another.
-use crate::tried::*;
+use crate::bench::Bench;
+use crate::tried::{EVEN_PAIR, EVEN_RESULT, NOTHING, OUT_OF_RANGE, Outcome, PAIR, RESULT, Tried};
 use engine::engine::Engine;
 use engine::word::WordEngine;
+use rule::pair::AdmittedPair;
 use std::process::Abort;
-use std::test::*;
+use std::test::Fail;
+use tests::pair::admitted;
 use tests::relay::Relay;
-use unit::unit::{Followers, Unit};
 
 // Order, a, b, and how many commands the run takes: of marked pairs (docs/RULE.md), of published long runs (52 and 165, as in runs.rt of
 // the crate tests), and else counted by the table of the rule in numbers of any size, away from this code.
-static RUNS: [(i64, i64, i64, u64); 7] = [
+const RUNS: [(i64, i64, i64, u64); 7] = [
     (3, 5, 2, 4),
     (5, 12, 18, 5),
     (18, 185487, 210061, 52),
@@ -19,94 +21,57 @@ static RUNS: [(i64, i64, i64, u64); 7] = [
     (56, 0xff_ffff_ffff_ffff, -0xff_ffff_ffff_ffff, 1),
 ];
 
-// A way of cutting a run: all works of one command; one work for all; works of 1, 2, 3 and so on up to the stint; works of 1 to 8 in no
-// order.
-#[derive(Clone, Copy)]
-enum Cut {
-    Ones,
-    Whole,
-    Growing,
-    Scattered,
-}
-
-const CUTS: [Cut; 4] = [Cut::Whole, Cut::Ones, Cut::Growing, Cut::Scattered];
-
-impl Cut {
-    fn stint(self) -> u64 {
-        match self {
-            Cut::Ones => 1,
-            Cut::Whole => 225,
-            Cut::Growing => 13,
-            Cut::Scattered => 8,
-        }
+impl<R: Abort, E: Engine> Bench<'_, R, E> {
+    // The frame of the result of a pair whose run takes so many commands, in a buffer of zeros; the run is cut by a stint and by the
+    // budget of the work that comes after so many others. The unit is empty before and after.
+    fn result_of<F: Fn(u64) -> u64>(
+        &mut self,
+        pair: AdmittedPair,
+        count: u64,
+        stint: u64,
+        budget: F,
+    ) -> Result<[u8; 49], Fail>
+        requires { F.IsAlwaysCallable budget }
+    {
+        self.unit.stint(stint)?;
+        self.load(pair)?;
+        assert_eq!(self.rt; self.work_out(budget)?, count);
+        let mut frame = [0u8; 49];
+        self.unit.collect(&mut frame)?;
+        assert_eq!(self.rt; u64::from(u16::from_be_bytes([frame[5], frame[6]])), count);
+        self.check(Tried::Clear, Outcome::Done);
+        Ok(frame)
     }
 
-    // The budget of the work that comes after so many others.
-    fn budget(self, before: u64) -> u64 {
-        match self {
-            Cut::Ones => 1,
-            Cut::Whole => 225,
-            Cut::Growing => before.saturating_add(1).min(13),
-            Cut::Scattered => (before.wrapping_mul(0x9e37_79b9_7f4a_7c15) >> 61).wrapping_add(1),
-        }
+    // One work for the whole run.
+    fn whole_result_of(&mut self, pair: AdmittedPair, count: u64) -> Result<[u8; 49], Fail> {
+        self.result_of(pair, count, 225, |_| 225)
     }
-}
 
-// Works the run of the pair that was loaded to its end, of which the count is known.
-fn work_out<E: Engine>(
-    rt: &impl Abort,
-    unit: &mut Unit<E, Followers>,
-    cut: Cut,
-    count: u64,
-) -> Result<(), Fail> {
-    let mut sum = 0u64;
-    for i in 0u64..226 {
-        check_call(rt, unit, Tried::Collect(49), NOT_OVER)?;
-        let budget = cut.budget(i);
-        let done = budget.min(count.wrapping_sub(sum));
-        sum = sum.wrapping_add(done);
-        check_call(
-            rt,
-            unit,
-            Tried::Work(budget),
-            Outcome::Worked(done, sum == count),
-        )?;
-        if sum == count {
-            return check_call(rt, unit, Tried::Work(budget), IS_OVER);
-        }
+    // The ways of cutting a run: one work for all; all works of one command; works of 1, 2, 3 and so on up to the stint; works of 1 to
+    // 8 in no order.
+    fn results_of(&mut self, pair: AdmittedPair, count: u64) -> Result<[[u8; 49]; 4], Fail> {
+        Ok([
+            self.whole_result_of(pair, count)?,
+            self.result_of(pair, count, 1, |_| 1)?,
+            self.result_of(pair, count, 13, |before| before.saturating_add(1).min(13))?,
+            self.result_of(pair, count, 8, |before| {
+                (before.wrapping_mul(0x9e37_79b9_7f4a_7c15) >> 61) + 1
+            })?,
+        ])
     }
-    Err(Fail::new("not over"))
-}
-
-// The frame of the result of a pair whose run is cut this way, in a buffer of zeros; the unit is empty before and after.
-fn result_of<E: Engine>(
-    rt: &impl Abort,
-    unit: &mut Unit<E, Followers>,
-    run: (i64, i64, i64, u64),
-    cut: Cut,
-) -> Result<[u8; 49], Fail> {
-    let (order, a, b, count) = run;
-    unit.stint(cut.stint())?;
-    load_pair(rt, unit, order, a, b)?;
-    work_out(rt, unit, cut, count)?;
-    let mut frame = [0u8; 49];
-    unit.collect(&mut frame)?;
-    assert_eq!(rt; u64::from(u16::from_be_bytes([frame[5], frame[6]])), count);
-    check_call(rt, unit, Tried::Clear, Outcome::Done)?;
-    Ok(frame)
 }
 
 // However a run is cut, it takes as many commands and ends with the same bytes, on either engine.
 #[test]
 fn every_cut_of_a_run(rt: HostRuntime) -> Result<(), Fail> {
-    let mut unit = Unit::over(WordEngine::new());
-    let mut relayed = Unit::over(Relay::over(WordEngine::new()));
-    for run in &RUNS {
-        let whole = result_of(&rt, &mut unit, *run, Cut::Whole)?;
-        for cut in CUTS {
-            assert!(rt; result_of(&rt, &mut unit, *run, cut)? == whole);
-            assert!(rt; result_of(&rt, &mut relayed, *run, cut)? == whole);
-        }
+    let mut bench = Bench::over(&rt, WordEngine::new());
+    let mut relayed = Bench::over(&rt, Relay::over(WordEngine::new()));
+    for (order, a, b, count) in RUNS {
+        let pair = admitted(order, a, b)?;
+        let whole = bench.whole_result_of(pair, count)?;
+        assert_eq!(rt; bench.results_of(pair, count)?, [whole; 4]);
+        assert_eq!(rt; relayed.results_of(pair, count)?, [whole; 4]);
     }
     Ok(())
 }
@@ -155,14 +120,15 @@ static LIFE: [(Tried, Outcome); 38] = [
 
 #[test]
 fn one_unit_for_many_pairs(rt: HostRuntime) -> Result<(), Fail> {
-    let mut unit = Unit::over(WordEngine::new());
-    assert_eq!(rt; unit.most(), 64);
-    check_calls(&rt, &mut unit, &LIFE)?;
-    assert_eq!(rt; unit.most(), 225);
-    let mut long = Unit::over(WordEngine::new());
-    load_pair(&rt, &mut long, 56, 0xc0_0000_0000_0001, 0xbf_ffff_ffff_ffff)?;
-    check_call(&rt, &mut long, Tried::Work(65), OUT_OF_RANGE)?;
-    check_call(&rt, &mut long, Tried::Work(64), Outcome::Worked(64, false))?;
-    check_call(&rt, &mut long, Tried::Work(64), Outcome::Worked(64, false))?;
-    check_call(&rt, &mut long, Tried::Work(64), Outcome::Worked(37, true))
+    let mut bench = Bench::over(&rt, WordEngine::new());
+    assert_eq!(rt; bench.unit.most(), 64);
+    bench.check_all(&LIFE);
+    assert_eq!(rt; bench.unit.most(), 225);
+    let mut long = Bench::over(&rt, WordEngine::new());
+    long.load(admitted(56, 0xc0_0000_0000_0001, 0xbf_ffff_ffff_ffff)?)?;
+    long.check(Tried::Work(65), OUT_OF_RANGE);
+    long.check(Tried::Work(64), Outcome::Worked(64, false));
+    long.check(Tried::Work(64), Outcome::Worked(64, false));
+    long.check(Tried::Work(64), Outcome::Worked(37, true));
+    Ok(())
 }

@@ -53,13 +53,18 @@ unfolding after
 kept_after k Fits keeps zero s h r = h
 kept_after k Fits keeps (suc m) s h r = kept_after k Fits keeps m (next k s) (keeps s h (r 0 (omega arith))) (λ j l. r (suc j) (omega arith))
 
--- where such a fact bounds the count, the run ends
-pub run_ends : {K : Type 0} (k : Kind K) (Fits : State K → Type 0) → Keeps k Fits → (n : ℕ) → ((s : State K) → Fits s → s.count ≤ n) → (e : ℕ) (s : State K) → n < e + s.count → Fits s → (m : ℕ) × Need k s m
-run_ends k Fits keeps n most zero s l h = absurd (omega (arith, most s h))
-run_ends k Fits keeps n most (suc e) s l h =
+-- where such a fact bounds the count by n, the run ends: fuel for all commands up to n is enough
+ends_by : {K : Type 0} (k : Kind K) (Fits : State K → Type 0) → Keeps k Fits → (n : ℕ) → ((s : State K) → Fits s → s.count ≤ n) → (fuel : ℕ) (s : State K) → n < fuel + s.count → Fits s → (m : ℕ) × Need k s m
+ends_by k Fits keeps n most zero s l h = absurd (omega (arith, most s h))
+ends_by k Fits keeps n most (suc fuel) s l h =
     elim (cases_Bool (k.is_zero s.b)) [
       | inl z ↦ (0, need_none k s z)
       | inr z ↦
-          let w = run_ends k Fits keeps n most e (next k s) (omega (arith, count_next k s)) (keeps s h z) in
+          let w = ends_by k Fits keeps n most fuel (next k s) (omega (arith, count_next k s)) (keeps s h z) in
           (suc w.0, need_more k s w.0 z w.1)
     ]
+
+pub ends_within : {K : Type 0} (k : Kind K) (Fits : State K → Type 0) → Keeps k Fits → (n : ℕ) → ((s : State K) → Fits s → s.count ≤ n) → (s : State K) → Fits s → (m : ℕ) × Need k s m × (m + s.count ≤ n)
+ends_within k Fits keeps n most s h =
+    let w = ends_by k Fits keeps n most (suc n) s (omega arith) h in
+    (w.0, w.1, omega (arith, count-after k w.0 s, most (after k w.0 s) (kept_after k Fits keeps w.0 s h w.1.before)))

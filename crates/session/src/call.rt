@@ -4,7 +4,7 @@ use rule::pair::AdmittedPair;
 use unit::unit::Worked;
 
 // A call with its argument: a frame, a number, or the buffer that the result goes to.
-#[derive(Drop)]
+#[derive(Drop, PartialEq, Eq, Debug)]
 pub enum Call {
     Load(Vec<u8>),
     Stint(u64),
@@ -14,7 +14,7 @@ pub enum Call {
 }
 
 // What a call answered; a collect hands its buffer back.
-#[derive(Drop)]
+#[derive(Drop, PartialEq, Eq, Debug)]
 pub enum Answer {
     Loaded(Result<AdmittedPair, Fault>),
     Stinted(Result<(), Fault>),

@@ -9,7 +9,7 @@ use std::fmt;
 use unit::unit::Worked;
 
 // A call with its argument: a frame, a number, or the buffer that the result goes to.
-#[derive(Drop)]
+#[derive(Drop, PartialEq, Eq, Debug)]
 pub enum Call {
     Load(Vec<u8>),
     Stint(u64),
@@ -35,7 +35,7 @@ impl fmt::Display for Call {
 }
 
 // What a call answered; a collect hands its buffer back.
-#[derive(Drop)]
+#[derive(Drop, PartialEq, Eq, Debug)]
 pub enum Answer {
     Loaded(Result<AdmittedPair, Fault>),
     Stinted(Result<(), Fault>),

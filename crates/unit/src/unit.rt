@@ -14,7 +14,8 @@ pub struct Worked {
     pub over: bool,
 }
 
-// An engine, the followers of its run, the most commands of one work, and the pair that is held.
+// An engine, the followers of its run, the most commands of one work, and the pair that is held, on whose run the engine and the
+// followers are.
 #[derive(Drop)]
 pub struct Unit<E: Engine, F: Follower> {
     engine: E,

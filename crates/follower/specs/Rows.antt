@@ -1,10 +1,10 @@
 -- The cofactor follower takes every command of the run of its pair, and stays in its relation.
 use Rattle.std.specs.Prelude.{◌≡◌, ℕ, zero, suc, ◌+◌, ◌*◌, ◌^◌, ◌≤◌, Bool, true, false, not, ◌&&◌, ◌||◌, ◌⊎◌, ℤ, pos, ◌+ℤ◌, ◌-ℤ◌, ◌*ℤ◌, Some, int_le, unsigned_abs, refl}
-use Rattle.std.specs.Bool.{xor}
 use Rattle.std.proofs.Common.{sym, ap, ◌∙◌, subst₂, inl, inr, arith, pow-add, pow_pos}
 use Rattle.std.proofs.Math.IntN.{+ℤ_comm}
 use Rattle.std.proofs.lemmas.Int.{ints}
 use Rattle.std.proofs.lemmas.Bool.{both_ways, or_parts, or_left, or_right, and_from}
+use mathlib.Core.Bool.{xor}
 use Rattle.rule.specs.Kind.{sign_by, summed}
 use Rattle.rule.specs.Pairs.{order_of, start_of}
 use Rattle.rule.specs.Rule.{State, command_by, command, obeyed, next, after, told}

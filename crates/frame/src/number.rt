@@ -25,6 +25,7 @@ pub fn signed(bytes: &[u8]) -> i64
     let [first, rest @ ..] = bytes else {
         return 0;
     };
+    // A fold was tried: that each step keeps the range that the next one asks for found no proof.
     let mut value = sign_byte(*first);
     for x in rest {
         value = appended(value, *x);

@@ -18,6 +18,7 @@ impl ToFrame for Reduction {
     #[tactic(auto, using(crate::proofs::Writing::result_frame_length))]
     fn put_frame(&self, part: &mut [u8]) {
         let width = self.order.width();
+        // Of parts that an iterator lends, as `chunks_exact_mut` does, nothing is known but their lengths.
         let (head, rest) = part.split_at_mut(5);
         let (count, rest) = rest.split_at_mut(2);
         let (twos, rest) = rest.split_at_mut(2);

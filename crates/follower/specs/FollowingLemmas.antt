@@ -52,7 +52,7 @@ follows_begun first accepts turns relation h p k r =
     let e = begun_table_at first turns p k in
     record { related = rw e (h p k r).related; takes = λ n. rw e ((h p k r).takes n) }
 
--- half of z, beside a two more
+-- half of z, times one two more, is z times its twos
 pub half_scaled : (z h : ℤ) (t : ℕ) (w : ℤ) → z ≡ h +ℤ h → z *ℤ pos (2 ^ t) ≡ w → h *ℤ pos (2 ^ suc t) ≡ w
 half_scaled z h t w e f = ident (pos (2 ^ t)) (pos (2 ^ suc t)) (ap pos (omega arith)) ∙ f
   where

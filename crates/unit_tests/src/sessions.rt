@@ -93,10 +93,12 @@ impl<R: Abort + AllocGlobal, E: Engine> Bench<'_, R, E> {
             (Tried::Work(_), Answer::Worked(answer)) => {
                 assert_eq!(self.rt; Outcome::of(answer), outcome);
             }
-            (Tried::Stint(_), Answer::Stinted(answer)) | (Tried::Clear, Answer::Cleared(answer)) =>
-                {
-                    assert_eq!(self.rt; Outcome::of(answer), outcome);
-                }
+            (Tried::Stint(_), Answer::Stinted(answer)) => {
+                assert_eq!(self.rt; Outcome::of(answer), outcome);
+            }
+            (Tried::Clear, Answer::Cleared(answer)) => {
+                assert_eq!(self.rt; Outcome::of(answer), outcome);
+            }
             (Tried::Collect(length), Answer::Collected(answer, buffer)) => {
                 assert_eq!(self.rt; buffer.len(), length);
                 assert_eq!(self.rt;

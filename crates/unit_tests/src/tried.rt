@@ -84,6 +84,7 @@ impl From<Fault> for Outcome<'_> {
 impl<'a> Outcome<'a> {
     // The outcome that an answer is.
     pub fn of<T: Into<Outcome<'a>>>(answer: Result<T, Fault>) -> Outcome<'a> {
+        // No `map_or_else`: the checker does not cover its functions where their result names a lifetime.
         match answer {
             Ok(given) => given.into(),
             Err(fault) => fault.into(),

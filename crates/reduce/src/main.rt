@@ -3,9 +3,8 @@
 
 use engine::word::WordEngine;
 use frame::cut::Frames;
-use frame::hex;
+use frame::hex::Hex;
 use session::reduce::reduce_frame;
-use std::alloc::{AllocError, Global};
 use std::io::Read;
 use unit::unit::{Followers, Unit};
 
@@ -15,29 +14,26 @@ const MOST_BYTES: u64 = 65536;
 // The longest result frame, that of an order with 8 bytes for each number.
 const LONGEST: usize = 49;
 
-// What is printed for a frame.
-fn line(
-    heap: Global,
+// Prints what a frame gives: the result, or the number of the refusal.
+fn print(
+    rt: &HostRuntime,
     unit: &mut Unit<WordEngine, Followers>,
     frame: &[u8],
-) -> Result<String, AllocError> {
+) -> anyhow::Result<()> {
     let mut buffer = [0; LONGEST];
     match reduce_frame(unit, frame, &mut buffer) {
-        Ok(length) => hex::text_of(heap, &buffer[0..length]),
-        Err(fault) => {
-            let number = fault.reason.number();
-            format!(in heap; "refused {number}")
-        }
+        Ok(length) => println!(rt; "{}", Hex(&buffer[..length]))?,
+        Err(fault) => println!(rt; "refused {}", fault.reason.number())?,
     }
+    Ok(())
 }
 
 fn run(rt: &HostRuntime) -> anyhow::Result<()> {
-    let heap = rt.alloc();
-    let mut input = Vec::new(heap);
+    let mut input = Vec::new(rt.alloc());
     rt.stdin().take(MOST_BYTES).read_to_end(&mut input)?;
     let mut unit = Unit::over(WordEngine::new());
     for frame in Frames::of(input.as_slice()) {
-        rt.println(line(heap, &mut unit, frame)?)?;
+        print(rt, &mut unit, frame)?;
     }
     Ok(())
 }

@@ -35,6 +35,7 @@ impl<'a> Script<'a> {
     fn add(&mut self, heap: Global, place: u64, line: &'a str) -> Result<(), AllocError>
         ensures { OnOk result (Adds place line.now self.old.calls.items self.old.entries.items self.new.calls.items self.new.entries.items) }
     {
+        // No `?`: a line that is wrong is an entry, and only want of memory ends the reading.
         match read_line(heap, without_return(line)) {
             Ok(None) => {}
             Ok(Some(call)) => {

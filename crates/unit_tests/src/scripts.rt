@@ -6,7 +6,7 @@ use script::parse::{Script, parse};
 use script::report::Report;
 use session::perform::perform;
 use std::alloc::Global;
-use std::test::*;
+use std::test::Fail;
 use unit::unit::Unit;
 
 const NO_CALLS: [(&str, &str); 18] = [

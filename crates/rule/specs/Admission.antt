@@ -32,3 +32,12 @@ pair_objection n a b =
 abbrev pub AdmitsPair : Order → ℤ → ℤ → Result AdmittedPair Fault → Type 0
 AdmitsPair o a b (Ok p) = (p.order ≡ o) × (p.a ≡ a) × (p.b ≡ b) × (pair_objection o.value a b ≡ None)
 AdmitsPair o a b (Err f) = pair_objection o.value a b ≡ Some f
+
+-- What stands against n as an order, and else against a and b as a pair of it.
+abbrev pub objection : ℤ → ℤ → ℤ → Option Fault
+objection n a b = elim (order_objection n) [ Some f ↦ Some f | None ↦ pair_objection (unsigned_abs n) a b ]
+
+-- The pair where nothing stands against the numbers, and else what does.
+abbrev pub Admits : ℤ → ℤ → ℤ → Result AdmittedPair Fault → Type 0
+Admits n a b (Ok p) = (pos p.order.value ≡ n) × (p.a ≡ a) × (p.b ≡ b) × (objection n a b ≡ None)
+Admits n a b (Err f) = objection n a b ≡ Some f

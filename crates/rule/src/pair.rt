@@ -12,3 +12,5 @@ pub struct AdmittedPair {
 }
 
 mod calls;
+
+pub use calls::admitted;

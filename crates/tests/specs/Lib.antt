@@ -1,3 +1,2 @@
-pub mod Plain
 pub mod Relays
 pub mod Scattered

@@ -1,8 +1,8 @@
 // Which orders and pairs are admitted, and how the others are refused.
-use crate::pair::admitted;
 use crate::refused::check_refused;
 use rule::fault::{Fault, Layer, Reason};
 use rule::order::Order;
+use rule::pair::admitted;
 use std::test::Fail;
 
 #[test]

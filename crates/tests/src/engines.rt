@@ -1,10 +1,10 @@
 // The calls of an engine, one by one.
-use crate::pair::admitted;
 use crate::relay::Relay;
 use engine::engine::Engine;
 use engine::word::WordEngine;
 use rule::command::Command;
 use rule::fault::{Layer, Reason};
+use rule::pair::admitted;
 use std::process::Abort;
 use std::test::Fail;
 

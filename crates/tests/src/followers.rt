@@ -1,11 +1,11 @@
 // Followers that are told what is not their run.
-use crate::pair::admitted;
 use follower::cofactor::Cofactor;
 use follower::follower::Follower;
 use follower::fraction::Fraction;
 use follower::pair::Pair;
 use rule::command::{Command, Sign};
 use rule::fault::{Fault, Layer, Reason};
+use rule::pair::admitted;
 use std::process::Abort;
 use std::test::Fail;
 

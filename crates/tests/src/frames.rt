@@ -1,5 +1,4 @@
 // Frames: the two worked examples, each refusal at its edges, every order, damaged bytes and buffers of every fit.
-use crate::pair::admitted;
 use crate::refused::check_refused;
 use frame::hex;
 use frame::hex::HexFault;
@@ -8,7 +7,7 @@ use frame::reduction::Reduction;
 use frame::result::write_result;
 use rule::fault::Layer;
 use rule::order::Order;
-use rule::pair::AdmittedPair;
+use rule::pair::{AdmittedPair, admitted};
 use std::process::Abort;
 use std::test::Fail;
 

@@ -12,7 +12,6 @@ pub mod euclid;
 mod followers;
 #[cfg(test)]
 mod frames;
-pub mod pair;
 #[cfg(test)]
 mod reductions;
 #[cfg(test)]

@@ -1,13 +1,12 @@
 // Whole reductions: the divisor, the cofactors with their bounds, and the fraction, against Euclid.
 use crate::euclid::euclid;
-use crate::pair::admitted;
 use crate::sequence::Sequence;
 use engine::word::WordEngine;
 use frame::reduction::Reduction;
 use reduction::reduce::reduce;
 use rule::fault::Fault;
 use rule::order::Order;
-use rule::pair::AdmittedPair;
+use rule::pair::{AdmittedPair, admitted};
 use std::process::Abort;
 use std::test::Fail;
 

@@ -1,9 +1,8 @@
 // How many commands whole runs take.
-use crate::pair::admitted;
 use engine::run::run_to_end;
 use engine::word::WordEngine;
 use rule::fault::Fault;
-use rule::pair::AdmittedPair;
+use rule::pair::{AdmittedPair, admitted};
 use std::test::Fail;
 
 // How many commands the run of a pair takes on a word engine.

@@ -10,8 +10,7 @@ use frame::pair::read_pair;
 use reduction::reduce::reduce;
 use report::Report;
 use rule::fault::Fault;
-use rule::order::Order;
-use rule::pair::AdmittedPair;
+use rule::pair::{AdmittedPair, admitted};
 use std::env;
 
 const USAGE: &str = "usage: trace ORDER A B, or trace FRAME";
@@ -19,10 +18,6 @@ const USAGE: &str = "usage: trace ORDER A B, or trace FRAME";
 // The whole number that a word spells.
 fn number(word: &str) -> anyhow::Result<i64> {
     word.parse::<i64>().map_err(|_| anyhow!("'{word}' is not a whole number of at most 64 bits"))
-}
-
-fn admitted(order: i64, a: i64, b: i64) -> Result<AdmittedPair, Fault> {
-    AdmittedPair::new(Order::try_from(order)?, a, b)
 }
 
 // The reduction of the pair on a word engine.

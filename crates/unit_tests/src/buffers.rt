@@ -2,8 +2,8 @@
 use crate::bench::Bench;
 use crate::tried::{Outcome, RESULT, TOO_SHORT, Tried};
 use engine::word::WordEngine;
+use rule::pair::admitted;
 use std::test::Fail;
-use tests::pair::admitted;
 
 // The results of the pair 5, 2 at orders where a number takes one byte, two, and eight.
 static RESULTS: [(i64, &[u8]); 4] = [

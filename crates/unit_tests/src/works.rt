@@ -3,10 +3,9 @@ use crate::bench::Bench;
 use crate::tried::{EVEN_PAIR, EVEN_RESULT, NOTHING, OUT_OF_RANGE, Outcome, PAIR, RESULT, Tried};
 use engine::engine::Engine;
 use engine::word::WordEngine;
-use rule::pair::AdmittedPair;
+use rule::pair::{AdmittedPair, admitted};
 use std::process::Abort;
 use std::test::Fail;
-use tests::pair::admitted;
 use tests::relay::Relay;
 
 // Order, a, b, and how many commands the run takes: of marked pairs (docs/RULE.md), of published long runs (52 and 165, as in runs.rt of

@@ -1,6 +1,6 @@
 // The way in to an admitted pair, and what it holds.
 ghost use Rattle.std.specs.Prelude.{◌≡◌};
-ghost use Rattle.rule.specs.Admission.{AdmitsPair};
+ghost use Rattle.rule.specs.Admission.{Admits, AdmitsPair};
 
 use super::AdmittedPair;
 use crate::fault::{Fault, Reason};
@@ -43,6 +43,13 @@ impl AdmittedPair {
     {
         self.b
     }
+}
+
+// The pair of an order and two operands that are plain numbers, or the refusal of the first that is not admitted.
+pub fn admitted(order: i64, a: i64, b: i64) -> Result<AdmittedPair, Fault>
+    ensures { Admits order a b result }
+{
+    AdmittedPair::new(Order::try_from(order)?, a, b)
 }
 
 // Both operands and the order, as the programs print them.

@@ -8,7 +8,7 @@ use Rattle.rule.specs.declared.command.Sign.{Sign}
 use Rattle.rule.specs.declared.command.Command.{Command}
 use Rattle.rule.specs.declared.command.Command.TheVariants.{Both, Cross, Shift, PlusMinus}
 use Rattle.rule.specs.declared.pair.AdmittedPair.{AdmittedPair}
-use Rattle.follower.specs.Following.{begun_first, begun_accepts, begun_turns, BegunRelated}
+use Rattle.follower.specs.Following.{begun_first, begun_turns}
 
 -- The first row c, d and the second row e, f; the order n; and x, y, the pair without the twos told so far.
 pub record CofactorRows : Type 0 where
@@ -89,11 +89,5 @@ pub record CofactorRowsRelated (p : AdmittedPair) (r : CofactorRows) (s : State 
 abbrev pub cofactor_first : AdmittedPair → Option CofactorRows
 cofactor_first = begun_first first_rows
 
-abbrev pub cofactor_accepts : Option CofactorRows → Command → Bool
-cofactor_accepts = begun_accepts rows_take
-
 abbrev pub cofactor_turns : Option CofactorRows → Command → Option CofactorRows
 cofactor_turns = begun_turns rows_turn
-
-abbrev pub CofactorRelated : AdmittedPair → Option CofactorRows → State ℤ → Type 0
-CofactorRelated = BegunRelated CofactorRowsRelated

@@ -9,7 +9,7 @@ use Rattle.rule.specs.declared.command.Command.TheVariants.{Both, Cross, Shift, 
 use Rattle.rule.specs.declared.command.Sign.{Sign}
 use Rattle.rule.specs.declared.command.Sign.TheVariants.{Plus, Minus}
 use Rattle.rule.specs.declared.pair.AdmittedPair.{AdmittedPair}
-use Rattle.follower.specs.Following.{table_at, begun_first, begun_accepts, begun_turns, BegunRelated}
+use Rattle.follower.specs.Following.{table_at, begun_first, begun_turns}
 use Rattle.follower.specs.Signs.{is_negative, negated_by}
 use Rattle.follower.specs.declared.row.Row.{Row}
 
@@ -68,12 +68,9 @@ rows_after c t = record { order = t.order; first = row_after (modulus t.order) c
 abbrev pub first_table : AdmittedPair → FractionRows
 first_table p = record { order = order_of p; first = row 1 0; second = row 0 1 }
 
--- A follower holds no table before it is begun, and takes every command from then on.
+-- A follower holds no table before it is begun.
 abbrev pub fraction_first : AdmittedPair → Option FractionRows
 fraction_first = begun_first first_table
-
-abbrev pub fraction_accepts : Option FractionRows → Command → Bool
-fraction_accepts = begun_accepts (λ t c. true)
 
 abbrev pub fraction_turns : Option FractionRows → Command → Option FractionRows
 fraction_turns = begun_turns (λ t c. rows_after c t)
@@ -94,10 +91,6 @@ pub record FractionRowsRelated (p : AdmittedPair) (t : FractionRows) (s : State 
   pub order : t.order ≡ order_of p
   pub first : RowRelated (modulus (order_of p)) t.first s p.a
   pub second : RowRelated (modulus (order_of p)) t.second s p.b
-
--- The same of a follower, which holds no table before it is begun.
-abbrev pub FractionRelated : AdmittedPair → Option FractionRows → State ℤ → Type 0
-FractionRelated = BegunRelated FractionRowsRelated
 
 -- An entry, read as a signed number of n + 2 bits.
 abbrev pub read_signed : ℕ → ℕ → ℤ

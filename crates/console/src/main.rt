@@ -19,7 +19,7 @@ fn read(rt: &HostRuntime) -> anyhow::Result<String> {
     let mut bytes = Vec::new(rt.alloc());
     rt.stdin().take(LARGEST_SCRIPT + 1).read_to_end(&mut bytes)?;
     if bytes.len() as u64 > LARGEST_SCRIPT {
-        return Err(anyhow!("a script has at most 1048576 bytes"));
+        return Err(anyhow!("a script has at most {LARGEST_SCRIPT} bytes"));
     }
     String::from_utf8(bytes).map_err(|_| anyhow!("a script is text in UTF-8"))
 }

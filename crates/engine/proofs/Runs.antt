@@ -1,8 +1,9 @@
 -- A run that is under way, one command more of it, and its end.
-use Rattle.std.proofs.Common.{◌≡◌, ℕ, suc, ◌+◌, ◌*◌, ◌^◌, ◌<◌, ◌≤◌, List, [], ◌∷◌, ◌++◌, length, ℤ, nat_abs, Result, Ok, Err, sym, refl, ap, ◌∙◌, subst, ap₂, arith, length-append, pow_mono}
+use Rattle.std.proofs.Common.{◌≡◌, ℕ, suc, ◌+◌, ◌*◌, ◌^◌, ◌<◌, ◌≤◌, List, [], ◌∷◌, ◌++◌, length, ℤ, nat_abs, Some, Result, Ok, Err, sym, refl, ap, ◌∙◌, subst, ap₂, arith, length-append, pow_mono}
+use Rattle.std.proofs.lemmas.Bool.Decides.{nat_tests}
 use Rattle.rule.specs.Rule.{after, told, Running, Need}
 use Rattle.rule.specs.Whole.{whole}
-use Rattle.rule.specs.Divisor.{Greatest, divisor}
+use Rattle.rule.specs.Divisor.{Greatest, divisor, scaled}
 use Rattle.rule.specs.Theorems.{Narrow}
 use Rattle.rule.specs.declared.command.Command.{Command}
 use Rattle.rule.specs.declared.fault.Fault.{Fault}
@@ -66,6 +67,9 @@ divisor_fits {p = p} {cs = cs} f m' u h x y =
     let g = greatest_there p (length cs) (need_there f m' u h) in
     let w : 2 ^ order_of p ≤ 2 ^ 56 = pow_mono p.order.admitted.1 in
     simp (x, y, (there (Err f) m' u h).2) (omega (arith, w, p.admitted.1, greatest_most _ p.a p.b p.admitted.2 g), omega (arith, (underway_narrow p (length cs) u.running).twos, p.order.admitted.1))
+
+pub scaled_there : {p : AdmittedPair} {cs : List Command} {m : Meaning} {a : ℤ} {t : ℕ} (f : Fault) (m' : Meaning) → Underway p cs m → Advances m (Err f) m' → a ≡ a_of m' → t ≡ twos_of m' → scaled a t ≡ Some (nat_abs a * 2 ^ t)
+scaled_there f m' u h x y = let d = divisor_fits f m' u h x y in grind (arith, nat_tests)
 
 pub finished : {p : AdmittedPair} {r : Run} {m m' : Meaning} {a : ℤ} (f : Fault) → Underway p (listed r.commands) m → Advances m (Err f) m' → r.pair ≡ p → a ≡ a_of m' → r.twos ≡ twos_of m' → r.gcd ≡ nat_abs a * 2 ^ r.twos → Finished p r m'
 finished {p = p} {r = r} {m' = m'} f u h i x t d =

@@ -9,7 +9,7 @@ ghost use Rattle.engine.specs.Words.{state_of};
 
 use rule::command::Sign;
 use rule::pair::AdmittedPair;
-use rule::words::halved;
+use rule::words::{exchanged, halved};
 
 #[derive(Clone, Copy, PartialEq, Eq, Debug, Default)]
 pub struct Registers {
@@ -43,19 +43,12 @@ impl Registers {
         }
     }
 
-    // a and b change places where the mark is set. A call shared with the followers' swap of rows would be no shorter.
+    // a and b change places where the mark is set.
     pub(crate) fn exchanged(self, exchange: bool) -> Registers
         ensures { state_of result ≡ exchanged exchange (state_of self) }
     {
-        if exchange {
-            Registers {
-                a: self.b,
-                b: self.a,
-                ..self
-            }
-        } else {
-            self
-        }
+        let (a, b) = exchanged(exchange, self.a, self.b);
+        Registers { a, b, ..self }
     }
 
     // b becomes half of a + b or of a - b, and δ becomes -|δ|.

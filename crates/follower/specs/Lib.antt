@@ -1,5 +1,4 @@
 pub mod Signs
-pub mod Exchanged
 pub mod Following
 pub mod Cofactor
 pub mod Entries

@@ -1,5 +1,5 @@
 // The table of the cofactor follower in machine words, and the numbers that it gives. The calls are in entries/calls.rt.
-ghost use Rattle.std.specs.Prelude.{◌^◌};
+ghost use Rattle.std.specs.Prelude.{◌-◌, ◌^◌};
 ghost use Rattle.follower.specs.Entries.{Within};
 
 use crate::row::Row;
@@ -12,7 +12,7 @@ pub struct Entries {
     pub pair: Row<i64>,
     pub first: Row<i64>,
     pub second: Row<i64>,
-    ghost small_pair: { Within (2 ^ 56) pair },
+    ghost small_pair: { Within (2 ^ 56 - 1) pair },
     ghost small_first: { Within (2 ^ 58) first },
     ghost small_second: { Within (2 ^ 58) second },
 }

@@ -1,5 +1,6 @@
 // The frame of a pair, read and written (docs/FRAMES.md).
 ghost use Rattle.std.specs.Prelude.{◌≡◌, ◌*◌, ◌^◌, ◌<◌, ◌≤◌, length, take, drop};
+ghost use Rattle.rule.specs.Admission.{width};
 ghost use Rattle.frame.specs.Frames.{frame_of, pair_frame};
 ghost use Rattle.frame.specs.Numbers.{signed_value};
 ghost use Rattle.frame.specs.Reading.{Framed, Reads, ReadsHead};
@@ -30,13 +31,13 @@ fn read_head(length: u16, version: u8, order: u16, filled: usize) -> Result<Orde
     Ok(order)
 }
 
-// The two operands, of as many bytes each as the width says.
-fn read_operands(bytes: &[u8], width: usize) -> (i64, i64)
-    requires { (length bytes.now ≡ 2 * width) × (width ≤ 8) }
-    ensures a { result.0 ≡ signed_value (take width bytes.now) }
-    ensures b { result.1 ≡ signed_value (drop width bytes.now) }
+// The two operands of an order, one behind the other.
+fn read_operands(bytes: &[u8], order: Order) -> (i64, i64)
+    requires { length bytes.now ≡ 2 * width order.value }
+    ensures a { result.0 ≡ signed_value (take (width order.value) bytes.now) }
+    ensures b { result.1 ≡ signed_value (drop (width order.value) bytes.now) }
 {
-    let (a, b) = bytes.split_at(width);
+    let (a, b) = bytes.split_at(order.width());
     (number::signed(a), number::signed(b))
 }
 
@@ -51,7 +52,7 @@ pub fn read_pair(bytes: &[u8]) -> Result<AdmittedPair, Fault>
     let length = u16::from_be_bytes([*l0, *l1]);
     let order = u16::from_be_bytes([*o0, *o1]);
     let order = read_head(length, *version, order, operands.len())?;
-    let (a, b) = read_operands(operands, order.width());
+    let (a, b) = read_operands(operands, order);
     AdmittedPair::new(order, a, b)
 }
 

@@ -37,6 +37,9 @@ impl ToFrame for Reduction {
     }
 }
 
+// The longest frame of a result, that of an order with 8 bytes for each number.
+pub const LONGEST: usize = 49;
+
 // Writes the frame of a result to the front of a buffer, and answers how long it is.
 pub fn write_result(reduction: &Reduction, buffer: &mut [u8]) -> Result<usize, Fault>
     ensures { Writes (result_frame reduction.now) buffer.old result buffer.new }

@@ -4,15 +4,13 @@
 use engine::word::WordEngine;
 use frame::cut::Frames;
 use frame::hex::Hex;
+use frame::result::LONGEST;
 use session::reduce::reduce_frame;
 use std::io::Read;
 use unit::unit::{Followers, Unit};
 
 // The most bytes that are read; what comes after them is not looked at.
 const MOST_BYTES: u64 = 65536;
-
-// The longest result frame, that of an order with 8 bytes for each number.
-const LONGEST: usize = 49;
 
 // Prints what a frame gives: the result, or the number of the refusal.
 fn print(

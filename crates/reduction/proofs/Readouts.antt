@@ -1,7 +1,7 @@
 -- What is read out at the end of a run is there, fits, and is right.
 use Rattle.std.proofs.Common.{◌≡◌, ℕ, ◌^◌, ◌<◌, ◌≤◌, true, ℤ, Some, None, Option, sym, refl, ap, ◌∙◌, subst, arith, pow_mono}
 use Rattle.std.proofs.lemmas.Bool.Decides.{nat_tests}
-use Rattle.rule.specs.Divisor.{Greatest, divisor}
+use Rattle.rule.specs.Divisor.{scaled, Greatest, divisor}
 use Rattle.rule.specs.Pairs.{order_of, start_of}
 use Rattle.rule.specs.Rule.{told, Need}
 use Rattle.rule.specs.Whole.{is_zero, whole}
@@ -24,7 +24,7 @@ use Rattle.follower.specs.Fractions.{fraction_reduced}
 use Rattle.frame.specs.Fits.{Fit}
 use Rattle.frame.specs.declared.reduction.Reduction.{Reduction}
 use Rattle.reduction.specs.Followers.{first_tables, next_tables}
-use Rattle.reduction.specs.Results.{state_at, Along, ReadsOut, fitting, scaled}
+use Rattle.reduction.specs.Results.{state_at, Along, ReadsOut, fitting}
 
 -- the test on sizes and the fact
 pub fitting_fits : (n g : ℕ) (c : Cofactors) (q : Ratio) → fitting n g c q ≡ true → Fit n g c.u c.v q.numerator q.denominator

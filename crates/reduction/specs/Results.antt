@@ -50,7 +50,3 @@ ReadsOut p k None = is_zero (state_at p k).b ≡ false
 -- Whether each number of a result is below 2^n in size.
 abbrev pub fitting : ℕ → ℕ → Cofactors → Ratio → Bool
 fitting n g c q = list_all (λ x. nat_lt x (2 ^ n)) (g ∷ unsigned_abs c.u ∷ unsigned_abs c.v ∷ unsigned_abs q.numerator ∷ unsigned_abs q.denominator ∷ [])
-
--- |z| times 2^t, if it is below 2^64 and t below 64.
-abbrev pub scaled : ℤ → ℕ → Option ℕ
-scaled z t = cond (nat_lt t 64 && nat_lt (unsigned_abs z * 2 ^ t) (2 ^ 64)) (Some (unsigned_abs z * 2 ^ t)) None

@@ -1,7 +1,7 @@
 // What an engine and the followers give at the end of the run of a pair.
 ghost use Rattle.std.specs.Prelude.{◌≡◌, ℕ};
 ghost use Rattle.reduction.specs.Followers.{first_tables, next_tables, tables_of};
-ghost use Rattle.reduction.specs.Results.{Along, ReadsOut, fitting, scaled};
+ghost use Rattle.reduction.specs.Results.{Along, ReadsOut, fitting};
 
 use engine::engine::Engine;
 use follower::cofactor::{Cofactor, Cofactors};
@@ -10,17 +10,10 @@ use follower::pair::Pair;
 use frame::reduction::Reduction;
 use rule::order::Order;
 use rule::pair::AdmittedPair;
+use rule::words::scaled;
 
 // The followers of a reduction.
 pub type Followers = Pair<Cofactor, Fraction>;
-
-// |a| · 2^twos, if a word has room for it.
-fn divisor(a: i64, twos: u16) -> Option<u64>
-    ensures { result ≡ scaled a twos }
-{
-    let power = 1u64.checked_shl(u32::from(twos))?;
-    a.unsigned_abs().checked_mul(power)
-}
 
 // Whether each number fits the bytes that the order gives it.
 fn fit(order: Order, g: u64, cofactors: Cofactors, ratio: Ratio) -> bool
@@ -50,7 +43,7 @@ pub fn read_out<E: Engine>(
     }
     let a = engine.a();
     let twos = engine.twos();
-    let g = divisor(a, twos)?;
+    let g = scaled(a, twos)?;
     let cofactors = followers.first.cofactors(a)?;
     let ratio = followers.second.read_out()?;
     if !fit(pair.order(), g, cofactors, ratio) {

@@ -10,3 +10,4 @@ pub mod Admission
 pub mod Pairs
 pub mod Theorems
 pub mod Marked
+pub mod Exchanged

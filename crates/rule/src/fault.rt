@@ -15,27 +15,28 @@ pub enum Layer {
 
 #[derive(Clone, Copy, PartialEq, Eq, Debug)]
 pub enum Reason {
-    FrameTooShort,
-    LengthDiffers,
-    WrongVersion,
-    OrderOutOfRange,
-    OperandsDoNotFill,
-    OperandTooLarge,
-    DenominatorZero,
-    BudgetOutOfRange,
-    BufferTooShort,
-    PairHeld,
-    NothingHeld,
-    RunNotOver,
-    RunOver,
-    OrderAboveLargest,
-    CommandNotTaken,
+    FrameTooShort = 1,
+    LengthDiffers = 2,
+    WrongVersion = 3,
+    OrderOutOfRange = 4,
+    OperandsDoNotFill = 5,
+    OperandTooLarge = 6,
+    DenominatorZero = 7,
+    BudgetOutOfRange = 8,
+    BufferTooShort = 9,
+    PairHeld = 21,
+    NothingHeld = 22,
+    RunNotOver = 23,
+    RunOver = 24,
+    OrderAboveLargest = 25,
+    CommandNotTaken = 26,
 }
 
 #[derive(Clone, Copy, PartialEq, Eq, Debug)]
 pub struct Fault {
     pub reason: Reason,
     pub layer: Layer,
+    // No `Option`: every refusal is told with a number, a layer and a place, which is 0 where the layer names none.
     pub place: usize,
 }
 
@@ -81,23 +82,7 @@ impl Reason {
     pub fn number(self) -> u8
         ensures { result ≡ number self }
     {
-        match self {
-            Reason::FrameTooShort => 1,
-            Reason::LengthDiffers => 2,
-            Reason::WrongVersion => 3,
-            Reason::OrderOutOfRange => 4,
-            Reason::OperandsDoNotFill => 5,
-            Reason::OperandTooLarge => 6,
-            Reason::DenominatorZero => 7,
-            Reason::BudgetOutOfRange => 8,
-            Reason::BufferTooShort => 9,
-            Reason::PairHeld => 21,
-            Reason::NothingHeld => 22,
-            Reason::RunNotOver => 23,
-            Reason::RunOver => 24,
-            Reason::OrderAboveLargest => 25,
-            Reason::CommandNotTaken => 26,
-        }
+        self as u8
     }
 
     // Why, in a plain sentence.

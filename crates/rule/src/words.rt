@@ -1,5 +1,7 @@
-// The tests and the halving of the rule on machine words.
+// The tests, the halving and the divisor of the rule on machine words, and the exchange of any two values.
 ghost use Rattle.std.specs.Prelude.{◌≡◌};
+ghost use Rattle.rule.specs.Divisor.{scaled};
+ghost use Rattle.rule.specs.Exchanged.{exchanged};
 ghost use Rattle.rule.specs.Whole.{odd, half, fourfold};
 
 #[tactic(auto, unfolding(crate::specs::Whole::odd))]
@@ -22,4 +24,23 @@ pub fn halved(z: i64) -> i64
     ensures { result ≡ half z }
 {
     z >> 1
+}
+
+// |a| · 2^twos, if a word has room for it.
+pub fn scaled(a: i64, twos: u16) -> Option<u64>
+    ensures { result ≡ scaled a twos }
+{
+    let power = 1u64.checked_shl(u32::from(twos))?;
+    a.unsigned_abs().checked_mul(power)
+}
+
+// Two of a kind, which change places where the mark is set.
+pub fn exchanged<T>(exchange: bool, first: T, second: T) -> (T, T)
+    ensures { result ≡ exchanged exchange first second }
+{
+    if exchange {
+        (second, first)
+    } else {
+        (first, second)
+    }
 }

@@ -8,8 +8,8 @@ use rule::pair::admitted;
 use std::process::Abort;
 use std::test::Fail;
 
-// What the questions of an engine answer.
-#[derive(Clone, Copy, PartialEq, Eq, Debug)]
+// What the questions of an engine answer; the default is the start of a run whose a is 0.
+#[derive(Clone, Copy, PartialEq, Eq, Debug, Default)]
 struct Answers {
     idle: bool,
     over: bool,
@@ -18,16 +18,6 @@ struct Answers {
     twos: u16,
     count: u16,
 }
-
-// The answers at the start of a run whose a is 0; each other state is written as what differs from it.
-const START: Answers = Answers {
-    idle: false,
-    over: false,
-    a: 0,
-    delta: 0,
-    twos: 0,
-    count: 0,
-};
 
 impl Answers {
     fn of<E: Engine>(engine: &E) -> Answers {
@@ -46,7 +36,7 @@ impl Answers {
 fn check_calls<E: Engine>(rt: &impl Abort, engine: &mut E) -> Result<(), Fail> {
     let idle = Answers {
         idle: true,
-        ..START
+        ..Answers::default()
     };
     assert_eq!(rt; Answers::of(engine), idle);
     assert_eq!(rt;
@@ -56,12 +46,12 @@ fn check_calls<E: Engine>(rt: &impl Abort, engine: &mut E) -> Result<(), Fail> {
     assert_eq!(rt; Answers::of(engine), idle);
 
     engine.begin(admitted(3, 0, 6)?)?;
-    assert_eq!(rt; Answers::of(engine), START);
+    assert_eq!(rt; Answers::of(engine), Answers::default());
     assert_eq!(rt; engine.advance(), Ok(Command::Both));
     let both = Answers {
         twos: 1,
         count: 1,
-        ..START
+        ..Answers::default()
     };
     assert_eq!(rt; Answers::of(engine), both);
     assert_eq!(rt; engine.advance(), Ok(Command::Cross));
@@ -71,20 +61,26 @@ fn check_calls<E: Engine>(rt: &impl Abort, engine: &mut E) -> Result<(), Fail> {
         delta: 1,
         twos: 1,
         count: 2,
-        ..START
+        ..Answers::default()
     };
     assert_eq!(rt; Answers::of(engine), over);
     assert_eq!(rt; engine.advance(), Err(Reason::RunOver.by(Layer::Engine)));
     assert_eq!(rt; Answers::of(engine), over);
 
     engine.begin(admitted(3, 5, 4)?)?;
-    assert_eq!(rt; Answers::of(engine), Answers { a: 5, ..START });
+    assert_eq!(rt;
+        Answers::of(engine),
+        Answers {
+            a: 5,
+            ..Answers::default()
+        }
+    );
     assert_eq!(rt; engine.advance(), Ok(Command::Shift));
     let shifted = Answers {
         a: 5,
         delta: 1,
         count: 1,
-        ..START
+        ..Answers::default()
     };
     assert_eq!(rt; Answers::of(engine), shifted);
     Ok(())

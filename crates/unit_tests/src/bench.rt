@@ -2,6 +2,7 @@
 use crate::tried::{FILLING, IS_OVER, NOT_OVER, Outcome, Tried};
 use engine::engine::Engine;
 use frame::pair::write_pair;
+use frame::result::LONGEST;
 use rule::pair::AdmittedPair;
 use std::process::Abort;
 use std::test::Fail;
@@ -65,7 +66,7 @@ impl<'a, R: Abort, E: Engine> Bench<'a, R, E> {
         // Added up in the loop: each work is checked on the way, and the last one ends it.
         let mut sum = 0u64;
         for before in 0u64..226 {
-            self.check(Tried::Collect(49), NOT_OVER);
+            self.check(Tried::Collect(LONGEST), NOT_OVER);
             let budget = budget(before);
             let worked = self.unit.work(budget)?;
             assert!(self.rt; worked.done >= 1 && worked.done <= budget);

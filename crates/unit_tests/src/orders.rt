@@ -3,6 +3,7 @@ use crate::bench::Bench;
 use crate::tried::{Outcome, Tried};
 use engine::engine::Engine;
 use engine::word::WordEngine;
+use frame::result::LONGEST;
 use rule::order::Order;
 use rule::pair::AdmittedPair;
 use std::process::Abort;
@@ -63,7 +64,7 @@ impl<R: Abort + AllocGlobal, E: Engine> Bench<'_, R, E> {
         self.load(pair)?;
         let most = self.unit.most();
         let count = self.work_out(|_| most)?;
-        let mut buffer = [0u8; 49];
+        let mut buffer = [0u8; LONGEST];
         let length = self.unit.collect(&mut buffer)?;
         let frame = buffer.get(..length).ok_or("beyond the buffer")?;
         self.check_frame(frame, pair, count)?;
@@ -98,7 +99,9 @@ fn every_order_against_euclid(rt: HostRuntime) -> Result<(), Fail> {
             (a.wrapping_neg(), b),
             (b, a.wrapping_neg().min(-1)),
         ] {
-            bench.check_pair(AdmittedPair::new(order, x, y)?)?;
+            let pair = AdmittedPair::new(order, x, y)?;
+            assert_eq!(rt; (pair.order(), pair.a(), pair.b()), (order, x, y));
+            bench.check_pair(pair)?;
         }
         bench.unit.stint(u64::from(n))?;
         bench.check_pair(AdmittedPair::new(order, a, b)?)?;

@@ -3,6 +3,7 @@ use crate::bench::Bench;
 use crate::tried::{EVEN_PAIR, EVEN_RESULT, NOTHING, OUT_OF_RANGE, Outcome, PAIR, RESULT, Tried};
 use engine::engine::Engine;
 use engine::word::WordEngine;
+use frame::result::LONGEST;
 use rule::pair::{AdmittedPair, admitted};
 use std::process::Abort;
 use std::test::Fail;
@@ -29,13 +30,13 @@ impl<R: Abort, E: Engine> Bench<'_, R, E> {
         count: u64,
         stint: u64,
         budget: F,
-    ) -> Result<[u8; 49], Fail>
+    ) -> Result<[u8; LONGEST], Fail>
         requires { F.IsAlwaysCallable budget }
     {
         self.unit.stint(stint)?;
         self.load(pair)?;
         assert_eq!(self.rt; self.work_out(budget)?, count);
-        let mut frame = [0u8; 49];
+        let mut frame = [0u8; LONGEST];
         self.unit.collect(&mut frame)?;
         assert_eq!(self.rt; u64::from(u16::from_be_bytes([frame[5], frame[6]])), count);
         self.check(Tried::Clear, Outcome::Done);
@@ -43,13 +44,13 @@ impl<R: Abort, E: Engine> Bench<'_, R, E> {
     }
 
     // One work for the whole run.
-    fn whole_result_of(&mut self, pair: AdmittedPair, count: u64) -> Result<[u8; 49], Fail> {
+    fn whole_result_of(&mut self, pair: AdmittedPair, count: u64) -> Result<[u8; LONGEST], Fail> {
         self.result_of(pair, count, 225, |_| 225)
     }
 
     // The ways of cutting a run: one work for all; all works of one command; works of 1, 2, 3 and so on up to the stint; works of 1 to
     // 8 in no order.
-    fn results_of(&mut self, pair: AdmittedPair, count: u64) -> Result<[[u8; 49]; 4], Fail> {
+    fn results_of(&mut self, pair: AdmittedPair, count: u64) -> Result<[[u8; LONGEST]; 4], Fail> {
         Ok([
             self.whole_result_of(pair, count)?,
             self.result_of(pair, count, 1, |_| 1)?,

@@ -1,5 +1,5 @@
 // The call that runs an engine to its end.
-ghost use Rattle.std.specs.Prelude.{◌≡◌, ◌*◌, ◌^◌, ◌<◌, unsigned_abs};
+ghost use Rattle.std.specs.Prelude.{◌≡◌};
 ghost use Rattle.rule.specs.Pairs.{order_of, start_of};
 ghost use Rattle.engine.specs.Meaning.{held};
 ghost use Rattle.engine.specs.Runs.{Finished, Runs};
@@ -9,14 +9,7 @@ use crate::commands::Commands;
 use crate::engine::Engine;
 use rule::fault::Fault;
 use rule::pair::AdmittedPair;
-
-// |a| · 2^twos. No crate shares it, since a public call may not ask that it fits.
-fn divisor(a: i64, twos: u16) -> u64
-    requires { (unsigned_abs a * 2 ^ twos < 2 ^ 56) × (twos < 64) }
-    ensures { result ≡ unsigned_abs a * 2 ^ twos }
-{
-    a.unsigned_abs() << twos
-}
+use rule::words::scaled;
 
 // Advances an engine from the start of a pair's run until b is 0, which is when it refuses to go on.
 fn advance_to_end<E: Engine>(engine: &mut E, pair: AdmittedPair) -> Run
@@ -28,7 +21,7 @@ fn advance_to_end<E: Engine>(engine: &mut E, pair: AdmittedPair) -> Run
         commands.push(command);
     }
     let twos = engine.twos();
-    let gcd = divisor(engine.a(), twos);
+    let gcd = scaled(engine.a(), twos).unwrap();
     Run {
         pair,
         commands,

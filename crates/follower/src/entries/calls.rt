@@ -10,10 +10,11 @@ ghost use Rattle.follower.specs.Signs.{is_negative};
 ghost use Rattle.follower.specs.Rows.{rows_follow};
 
 use super::{Cofactors, Entries};
-use crate::row::{Row, exchanged};
+use crate::row::Row;
 use crate::table::Table;
 use rule::command::{Command, Sign};
 use rule::pair::AdmittedPair;
+use rule::words::exchanged;
 
 // Whether twice the size of c is above the size of y.
 fn is_far(c: i64, y: i64) -> bool

@@ -4,9 +4,10 @@ ghost use Rattle.follower.specs.Fraction.{modulus, sum_in, difference_in, row_af
 
 use super::KeptRow;
 use crate::modulus::modulus;
-use crate::row::{Row, exchanged};
+use crate::row::Row;
 use rule::command::{Command, Sign};
 use rule::order::Order;
+use rule::words::exchanged;
 
 // x + y modulo 2^(n+2).
 fn sum_in(order: Order, x: u64, y: u64) -> u64

@@ -1,6 +1,7 @@
-use Rattle.std.proofs.Common.{take, drop, ap, ◌∙◌, ap₂, w64, SFits, rules}
+use Rattle.std.proofs.Common.{take, drop, ap, ◌∙◌, w64, SFits, rules}
 use Rattle.std.proofs.lemmas.Int.{to_z-of_z}
 use Rattle.std.proofs.lemmas.List.{take_rest}
+use Rattle.rule.specs.Admission.{width}
 use Rattle.frame.specs.Numbers.{signed_value}
 use Rattle.frame.proofs.Reading.{reads_admitted, reading_headed}
 use Rattle.frame.proofs.RoundTrips.{framed}
@@ -16,7 +17,7 @@ returns c =
     let g : SFits w64 b = search rules in
     let headed =
     reading_headed s o.value a b (search rules) (search rules) (search rules)
-    (c.read_operands-a.ensures.a ∙ ap signed_value (ap₂ take c.width.ensures (take_rest s 5)))
-    (c.read_operands-a.ensures.b ∙ ap signed_value (ap₂ drop c.width.ensures (take_rest s 5))) in
+    (c.read_operands-a.ensures.a ∙ ap signed_value (ap (take (width o.value)) (take_rest s 5)))
+    (c.read_operands-a.ensures.b ∙ ap signed_value (ap (drop (width o.value)) (take_rest s 5))) in
     let reads = reads_admitted s o _ _ c.new.result (simp to_z-of_z headed) c.new.ensures in
     record { reads = reads; unique = framed s c.new.result (λ i. (c.type_inv.bytes i).fits) reads }

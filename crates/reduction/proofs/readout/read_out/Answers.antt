@@ -43,4 +43,4 @@ returns g c = λ k along.
     let fn : SFits w64 c.in_ok-ratio.ratio.numerator = search rules in
     let fd : SFits w64 c.in_ok-ratio.ratio.denominator = search rules in
     let e = ended c.args.pair k _ _ _ along (sym c.if-not-is_over.ensures) in
-    result_of c.args.pair k _ _ _ e (to_z w64 (of_z w64 c.a-a.result)) c.in_ok-cofactors.cofactors c.in_ok-ratio.ratio _ (to_z-of_z w64 c.a-a.result f ∙ c.a-a.ensures) (sym c.divisor.ensures ∙ c.in_ok-g.was) (sym c.cofactors.ensures ∙ c.in_ok-cofactors.was) (sym c.read_out.ensures ∙ c.in_ok-ratio.was) c.order-2.ensures c.count.ensures c.twos-twos.ensures (simp to_z-of_z) (simp to_z-of_z)
+    result_of c.args.pair k _ _ _ e (to_z w64 (of_z w64 c.a-a.result)) c.in_ok-cofactors.cofactors c.in_ok-ratio.ratio _ (to_z-of_z w64 c.a-a.result f ∙ c.a-a.ensures) (sym c.scaled.ensures ∙ c.in_ok-g.was) (sym c.cofactors.ensures ∙ c.in_ok-cofactors.was) (sym c.read_out.ensures ∙ c.in_ok-ratio.was) c.order-2.ensures c.count.ensures c.twos-twos.ensures (simp to_z-of_z) (simp to_z-of_z)

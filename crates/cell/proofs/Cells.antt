@@ -1,27 +1,22 @@
 -- A cell that takes the links of a state gives those of the next.
-use Rattle.std.proofs.Common.{◌≡◌, ℕ, zero, suc, ◌+◌, ◌%◌, ◌^◌, ◌<◌, Bool, true, false, not, cond, ℤ, pos, negsuc, ◌+ℤ◌, ◌-ℤ◌, neg_ℤ, unsigned_abs, int_le, refl, sym, ap, ◌∙◌, ap₂, subst, arith, w16}
+use Rattle.std.proofs.Common.{◌≡◌, ℕ, zero, suc, ◌^◌, ◌<◌, Bool, true, false, ℤ, pos, ◌+ℤ◌, unsigned_abs, int_le, refl, sym, ap, ◌∙◌, ap₂, arith, w16}
 use Rattle.std.specs.Int.{int_wrap}
-use Rattle.std.specs.Bool.{beq}
 use Rattle.std.proofs.lemmas.Int.{ints, int_wrap_fits, fits_signed_from_abs}
 use Rattle.std.proofs.lemmas.Bool.Decides.{nat_tests}
 use Rattle.rule.specs.Kind.{sign_by, summed}
 use Rattle.rule.specs.Rule.{State, command_by, command, obeyed, next}
 use Rattle.rule.specs.Whole.{odd, half, fourfold, whole}
-use Rattle.rule.specs.declared.command.Sign.{Sign}
-use Rattle.rule.specs.declared.command.Sign.TheVariants.{Plus, Minus}
 use Rattle.rule.specs.declared.command.Command.{Command}
-use Rattle.rule.specs.declared.command.Command.TheVariants.{Both, Cross, Shift, PlusMinus}
-use Rattle.cell.specs.Bits.{bit, differ, sum_bit, most, carried}
-use Rattle.cell.specs.Links.{blank, links}
-use Rattle.cell.specs.Runs.{fixed, first_carry, begun, plus_minus, place, bits, run_after}
-use Rattle.cell.specs.Cells.{delta_after, twos_after, taken, gives}
+use Rattle.rule.specs.declared.command.Command.TheVariants.{PlusMinus}
+use Rattle.cell.specs.Bits.{bit, differ}
+use Rattle.cell.specs.Links.{links}
+use Rattle.cell.specs.Runs.{first_carry}
+use Rattle.cell.specs.Cells.{delta_after, twos_after, gives}
 use Rattle.cell.specs.Theorems.{HasRoom, CellObeys}
 use Rattle.cell.specs.declared.link.Link.{Link}
 use Rattle.cell.specs.declared.run.Run.{Run}
-use Rattle.cell.specs.declared.run.Place.{Place}
-use Rattle.cell.specs.declared.cell.Cell.{Cell}
-use Rattle.cell.specs.declared.cell.Cell.TheVariants.{Idle, Started, Running}
-use Rattle.cell.proofs.Places.{over, num, joined, owed_a, owed_b, went, split, emits, Emits}
+use Rattle.cell.specs.declared.cell.Cell.TheVariants.{Idle, Running}
+use Rattle.cell.proofs.Places.{num, joined, owed_a, owed_b, went, split, emits}
 
 -- ---- the links that a running cell gives
 abbrev plain : ℤ → ℤ → ℕ → Link

@@ -1,5 +1,5 @@
 // A cell: it takes the links of a state one by one, and gives those of the state after one command of the rule.
-ghost use Rattle.std.specs.Prelude.{◌≡◌, cond};
+ghost use Rattle.std.specs.Prelude.{◌≡◌};
 ghost use Rattle.cell.specs.declared.cell.Cell.TheVariants.{Idle};
 ghost use Rattle.cell.specs.Cells.{delta_after, twos_after, taken};
 
@@ -21,10 +21,10 @@ fn delta_after(command: Command, delta: i16) -> i16
     ensures { result ≡ delta_after command delta }
 {
     match command {
-        Command::Both => delta,
         Command::Cross => 1i16.wrapping_sub(delta),
         Command::Shift => delta.wrapping_add(1),
-        Command::PlusMinus { .. } => { if delta > 0 { -delta } else { delta } }
+        Command::PlusMinus { .. } if delta > 0 => -delta,
+        Command::Both | Command::PlusMinus { .. } => delta,
     }
 }
 
@@ -51,30 +51,24 @@ impl Cell {
         ensures given { result ≡ (taken self.old link).given }
         ensures cell { self.new ≡ (taken self.old link).cell }
     {
-        match *self {
-            Cell::Idle => {
-                if link.start {
-                    *self = Cell::Started(link);
-                }
+        match self {
+            Cell::Idle if link.start => {
+                *self = Cell::Started(link);
                 Link::default()
             }
+            Cell::Idle => Link::default(),
             Cell::Started(first) => {
-                let mut run = Run::begin(first, link.a, link.b);
-                let command = run.command;
-                let bits = run.take(link.a, link.b);
-                *self = Cell::Running(run);
-                Link {
+                let mut run = Run::begin(*first, link.a, link.b);
+                let given = Link {
                     start: true,
-                    delta: delta_after(command, first.delta),
-                    twos: twos_after(command, first.twos),
-                    ..bits
-                }
-            }
-            Cell::Running(mut run) => {
-                let bits = run.take(link.a, link.b);
+                    delta: delta_after(run.command, first.delta),
+                    twos: twos_after(run.command, first.twos),
+                    ..run.take(link.a, link.b)
+                };
                 *self = Cell::Running(run);
-                bits
+                given
             }
+            Cell::Running(run) => run.take(link.a, link.b),
         }
     }
 }

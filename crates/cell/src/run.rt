@@ -70,13 +70,13 @@ fn fixed(first: Link, a: bool, b: bool) -> Command
 fn first_carry(command: Command) -> bool
     ensures { result ≡ first_carry command }
 {
-    match command {
+    matches!(
+        command,
         Command::PlusMinus {
             sign: Sign::Plus,
             ..
-        } => true,
-        _ => false,
-    }
+        }
+    )
 }
 
 impl Run {

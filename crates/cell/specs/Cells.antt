@@ -17,7 +17,7 @@ delta_after Cross d = int_wrap w16 (pos 1 -ℤ d)
 delta_after Shift d = int_wrap w16 (d +ℤ pos 1)
 delta_after (PlusMinus g x) d = neg_ℤ (pos (unsigned_abs d))
 
--- The halvings of both once the command is done, by 2^16.
+-- The halvings of both once the command is done, counted in 16 bits: after the largest count comes 0.
 abbrev pub twos_after : Command → ℕ → ℕ
 twos_after Both t = (t + 1) % 2 ^ 16
 twos_after Cross t = t

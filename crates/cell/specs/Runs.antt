@@ -30,7 +30,7 @@ begun first a b = record { command = fixed first a b; a = first.a; b = first.b; 
 abbrev pub plus_minus : Sign → Bool → Bool → Bool → Bool → Place
 plus_minus g kept x y c = record { a = kept; b = sum_bit x y c; carry = carried g x y c }
 
--- The next place of the new numbers by the command, where the bits a and b come. What is halved gives the bit that comes, and what is not the bit before.
+-- The next place of the new numbers by the command, where the bits a and b come: a halved number gives the bit that comes, and one that is not halved the bit before it.
 abbrev pub place : Command → Run → Bool → Bool → Place
 place Both r a b = record { a = a; b = b; carry = r.carry }
 place Cross r a b = record { a = r.b; b = a; carry = r.carry }

@@ -1,0 +1,6 @@
+#![tactic(auto)]
+
+pub mod cell;
+pub mod link;
+pub mod run;
+pub mod theorems;

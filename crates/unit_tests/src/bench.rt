@@ -25,6 +25,7 @@ impl<'a, R: Abort, E: Engine> Bench<'a, R, E> {
 
     // Makes the call, and holds its answer to the outcome.
     pub fn check(&mut self, call: Tried, outcome: Outcome) {
+        // An assertion in each arm: the checker does not cover a value that a match chooses from several borrows.
         match call {
             Tried::Load(frame) => assert_eq!(self.rt; Outcome::of(self.unit.load(frame)), outcome),
             Tried::Stint(most) => assert_eq!(self.rt; Outcome::of(self.unit.stint(most)), outcome),

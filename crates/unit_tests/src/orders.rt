@@ -25,6 +25,7 @@ fn signed(bytes: &[u8]) -> i128 {
 impl<R: Abort + AllocGlobal, E: Engine> Bench<'_, R, E> {
     // The head of a result frame: its length and version, the order, the count, and as many twos as the divisor has. Behind it stand five
     // numbers, which are those of the pair, in wide numbers.
+    // The crate tests holds such numbers to Euclid too: a check that both share would have to end a test, and only a test may do that.
     fn check_frame(&self, frame: &[u8], pair: AdmittedPair, count: u64) -> Result<(), Fail> {
         let rt = self.rt;
         let [l0, l1, version, o0, o1, c0, c1, t0, t1, numbers @ ..] = frame else {

@@ -86,6 +86,7 @@ fn room(heap: Global) -> Result<Vec<Answer>, AllocError> {
 
 impl<R: Abort + AllocGlobal, E: Engine> Bench<'_, R, E> {
     fn check_answer(&self, call: Tried, outcome: Outcome, answer: Answer) -> Result<(), Fail> {
+        // An assertion in each arm: the checker does not cover a value that a match chooses from several borrows.
         match (call, answer) {
             (Tried::Load(_), Answer::Loaded(answer)) => {
                 assert_eq!(self.rt; Outcome::of(answer), outcome);

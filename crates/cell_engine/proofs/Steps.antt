@@ -1,0 +1,1 @@
+-- What the first links back say of the rule's command.

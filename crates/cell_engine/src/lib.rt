@@ -1,0 +1,4 @@
+#![tactic(auto)]
+
+pub mod bitwise;
+mod passage;

@@ -1,1 +1,89 @@
--- What the first links back say of the rule's command.
+-- One command through a cell: what is told, and the state that it leaves.
+use Rattle.std.proofs.Common.{◌≡◌, ℕ, ◌+◌, ◌<◌, ◌≤◌, ◌∙◌, Bool, true, false, ℤ, pos, ◌+ℤ◌, Some, suc, refl, ap, subst, arith, int_le}
+use mathlib.Core.Logic.{∥∥₁_elim, ∥∥₁_map}
+use native.Mathlib.Bridge.{le_prop}
+use Rattle.std.proofs.lemmas.Int.{ints}
+use Rattle.std.proofs.lemmas.Bool.Decides.{nat_tests}
+use Rattle.rule.specs.Reached.{Reached}
+use Rattle.rule.specs.Rule.{State, command_by, command, next}
+use Rattle.rule.specs.Theorems.{Narrow}
+use Rattle.rule.specs.Whole.{is_zero, odd, half, fourfold, whole}
+use Rattle.rule.proofs.Reached.{reached_next}
+use Rattle.rule.proofs.Fuel.{count_next}
+use Rattle.rule.proofs.Whole.{running_narrow}
+use Rattle.cell.specs.Bits.{bit, differ}
+use Rattle.cell.specs.Cells.{gives, taken}
+use Rattle.cell.specs.Links.{links}
+use Rattle.cell.specs.Theorems.{HasRoom}
+use Rattle.cell.specs.declared.cell.Cell.TheVariants.{Started}
+use Rattle.cell.specs.declared.link.Link.{Link}
+use Rattle.cell.proofs.Cells.{cell_obeys}
+use Rattle.cell_engine.specs.Passing.{plain, sent, command_in, Gives, Stands, ReadsBack}
+use Rattle.cell_engine.specs.Words.{standing}
+use Rattle.cell_engine.specs.declared.passage.Passage.{Passage}
+
+-- ---- the link with the start mark, and the passage after it
+pub started : (s : State ℤ) {p q : Bool} {d : ℤ} → p ≡ odd s.a → q ≡ odd s.b → d ≡ s.δ → record { start = true; a = p; b = q; delta = d; twos = s.twos } ≡ links s 0
+unfolding links bit
+started s e f g = rw (e, f, g) refl
+
+-- both numbers of a state on their way
+abbrev pub passage_of : State ℤ → Passage
+passage_of s = record { cell = Started (links s 0); a = half s.a; b = half s.b }
+
+pub passage_is : {p : Passage} (s : State ℤ) → p.cell ≡ Started (links s 0) → p.a ≡ half s.a → p.b ≡ half s.b → p ≡ passage_of s
+passage_is s e f g = cc
+
+-- ---- the widths
+pub narrow_there : (n : ℕ) (s : State ℤ) → ∥ Reached n s ∥₁ → Narrow n s
+narrow_there n s r = ∥∥₁_elim r (hlevel le_prop) (λ q. subst (Narrow n) q.here (running_narrow n q.x q.y q.operands.0 q.operands.1 s.count q.running))
+
+pub reached_more : (n : ℕ) (s : State ℤ) → is_zero s.b ≡ false → ∥ Reached n s ∥₁ → ∥ Reached n (next whole s) ∥₁
+reached_more n s z r = ∥∥₁_map r (reached_next n s z)
+
+pub room : (n : ℕ) (s : State ℤ) → n ≤ 48 → Narrow n s → HasRoom s
+room n s l h = record { δ = omega (arith, h.δ); twos = omega (arith, h.twos) }
+
+-- ---- the command
+fourfold_sum : (x y : ℤ) → odd x ≡ true → odd y ≡ true → fourfold (x +ℤ y) ≡ differ (odd (half x)) (odd (half y))
+unfolding odd half fourfold
+fourfold_sum x y o p = grind (arith, ints, nat_tests)
+
+fixed_by : (x y : ℤ) (p q d : Bool) → odd x ≡ p → odd y ≡ q → command_by p q (differ (odd (half x)) (odd (half y))) d ≡ command_by p q (fourfold (x +ℤ y)) d
+fixed_by x y false false d e f = refl
+fixed_by x y false true d e f = refl
+fixed_by x y true false d e f = refl
+fixed_by x y true true d e f = rw (fourfold_sum x y e f) refl
+
+-- the cell runs the command of the state
+pub command_told : (s : State ℤ) → command_in (sent (passage_of s)).cell ≡ Some (command whole s)
+unfolding command links bit
+command_told s = ap Some (fixed_by s.a s.b (odd s.a) (odd s.b) (int_le (pos 0) s.δ) refl refl)
+
+-- ---- the links that come back
+pub opened : (s : State ℤ) → HasRoom s → (taken (passage_of s).cell (plain (passage_of s).a (passage_of s).b 0)).given ≡ links (next whole s) 0
+unfolding gives links bit
+opened s w = (cell_obeys s w).1 0
+
+followed : (s : State ℤ) → HasRoom s → Gives (sent (passage_of s)) (half (next whole s).a) (half (next whole s).b)
+unfolding gives links bit
+followed s w = λ k. (cell_obeys s w).1 (suc k)
+
+-- they stand for the numbers of the next state
+stands : (n : ℕ) (s : State ℤ) (l : Link) → n ≤ 48 → ∥ Reached n s ∥₁ → is_zero s.b ≡ false → l ≡ links (next whole s) 0 → Stands (sent (passage_of s)) l n (next whole s).a (next whole s).b
+unfolding links bit
+stands n s l m r z e =
+    let t = narrow_there n (next whole s) (reached_more n s z r) in
+    record { a = ap (λ x. x.a) e; b = ap (λ x. x.b) e; rest = followed s (room n s m (narrow_there n s r)); below_a = t.a; below_b = t.b }
+
+-- the numbers read back are those of the next state
+pub arrived : (n : ℕ) (s : State ℤ) {p : Passage} {l : Link} {r : ℤ × ℤ} → n ≤ 48 → ∥ Reached n s ∥₁ → is_zero s.b ≡ false → p ≡ passage_of s → l ≡ (taken p.cell (plain p.a p.b 0)).given → ReadsBack (sent p) l n r → standing r.0 r.1 l.delta l.twos (s.count + 1) ≡ next whole s
+unfolding links
+arrived n s {p = p} {l = l} {r = r} m h z q e f =
+    let t = next whole s in
+    let g : l ≡ links t 0 = e ∙ ap (λ x. (taken x.cell (plain x.a x.b 0)).given) q ∙ opened s (room n s m (narrow_there n s h)) in
+    let k = subst (λ x. ReadsBack (sent x) l n r) q f t.a t.b (stands n s l m h z g) in
+    let d : l.delta ≡ t.δ = ap (λ x. x.delta) g in
+    let w : l.twos ≡ t.twos = ap (λ x. x.twos) g in
+    let c : s.count + 1 ≡ t.count = omega (arith, count_next whole s) in
+    rw (k.0, k.1, d, w, c) refl

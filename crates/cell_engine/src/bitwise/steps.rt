@@ -47,7 +47,9 @@ impl Held {
 
     // Both numbers on their way through a fresh cell, which has taken the link with the start mark.
     fn sent(self) -> Passage
-        ensures { result ≡ record { cell = Started (links (state_of self) 0); a = half self.a; b = half self.b } }
+        ensures cell { result.cell ≡ Started (links (state_of self) 0) }
+        ensures a { result.a ≡ half self.a }
+        ensures b { result.b ≡ half self.b }
     {
         let mut cell = Cell::new();
         cell.take(self.link());

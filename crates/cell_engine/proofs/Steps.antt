@@ -1,8 +1,8 @@
 -- One command through a cell: what is told, and the state that it leaves.
-use Rattle.std.proofs.Common.{◌≡◌, ℕ, ◌+◌, ◌<◌, ◌≤◌, ◌∙◌, Bool, true, false, ℤ, pos, ◌+ℤ◌, Some, suc, refl, ap, subst, arith, int_le}
+use Rattle.std.proofs.Common.{◌≡◌, ℕ, ◌+◌, ◌<◌, ◌≤◌, ◌∙◌, Bool, true, false, ℤ, pos, ◌+ℤ◌, Some, suc, w16, w64, SFits, to_z, of_z, refl, ap, subst, arith, int_le}
 use mathlib.Core.Logic.{∥∥₁_elim, ∥∥₁_map}
 use native.Mathlib.Bridge.{le_prop}
-use Rattle.std.proofs.lemmas.Int.{ints}
+use Rattle.std.proofs.lemmas.Int.{ints, to_z-of_z}
 use Rattle.std.proofs.lemmas.Bool.Decides.{nat_tests}
 use Rattle.rule.specs.Reached.{Reached}
 use Rattle.rule.specs.Rule.{State, command_by, command, next}
@@ -32,7 +32,7 @@ abbrev pub passage_of : State ℤ → Passage
 passage_of s = record { cell = Started (links s 0); a = half s.a; b = half s.b }
 
 pub passage_is : {p : Passage} (s : State ℤ) → p.cell ≡ Started (links s 0) → p.a ≡ half s.a → p.b ≡ half s.b → p ≡ passage_of s
-passage_is s e f g = cc
+passage_is {p = p} s e f g = let h : record { cell = p.cell; a = p.a; b = p.b } ≡ passage_of s = rw (e, f, g) refl in h
 
 -- ---- the widths
 pub narrow_there : (n : ℕ) (s : State ℤ) → ∥ Reached n s ∥₁ → Narrow n s
@@ -76,14 +76,14 @@ stands n s l m r z e =
     let t = narrow_there n (next whole s) (reached_more n s z r) in
     record { a = ap (λ x. x.a) e; b = ap (λ x. x.b) e; rest = followed s (room n s m (narrow_there n s r)); below_a = t.a; below_b = t.b }
 
--- the numbers read back are those of the next state
-pub arrived : (n : ℕ) (s : State ℤ) {p : Passage} {l : Link} {r : ℤ × ℤ} → n ≤ 48 → ∥ Reached n s ∥₁ → is_zero s.b ≡ false → p ≡ passage_of s → l ≡ (taken p.cell (plain p.a p.b 0)).given → ReadsBack (sent p) l n r → standing r.0 r.1 l.delta l.twos (s.count + 1) ≡ next whole s
+-- the numbers read back are those of the next state, here in words
+pub arrived : (n : ℕ) (s : State ℤ) {p p' : Passage} {l : Link} {m : ℕ} {r : ℤ × ℤ} → n ≤ 48 → ∥ Reached n s ∥₁ → is_zero s.b ≡ false → p ≡ passage_of s → l ≡ (taken p.cell (plain p.a p.b 0)).given → p' ≡ sent p → m ≡ n → ReadsBack p' l m r → SFits w64 r.0 → SFits w64 r.1 → SFits w16 l.delta → standing (to_z w64 (of_z w64 r.0)) (to_z w64 (of_z w64 r.1)) (to_z w16 (of_z w16 l.delta)) l.twos (s.count + 1) ≡ next whole s
 unfolding links
-arrived n s {p = p} {l = l} {r = r} m h z q e f =
+arrived n s {l = l} {m = m} {r = r} h i z q e v w f x y u =
     let t = next whole s in
-    let g : l ≡ links t 0 = e ∙ ap (λ x. (taken x.cell (plain x.a x.b 0)).given) q ∙ opened s (room n s m (narrow_there n s h)) in
-    let k = subst (λ x. ReadsBack (sent x) l n r) q f t.a t.b (stands n s l m h z g) in
-    let d : l.delta ≡ t.δ = ap (λ x. x.delta) g in
-    let w : l.twos ≡ t.twos = ap (λ x. x.twos) g in
+    let g : l ≡ links t 0 = e ∙ ap (λ x. (taken x.cell (plain x.a x.b 0)).given) q ∙ opened s (room n s h (narrow_there n s i)) in
+    let k = subst (λ j. ReadsBack (sent (passage_of s)) l j r) w (subst (λ p. ReadsBack p l m r) (v ∙ ap sent q) f) t.a t.b (stands n s l h i z g) in
+    let d : to_z w16 (of_z w16 l.delta) ≡ t.δ = to_z-of_z w16 l.delta u ∙ ap (λ x. x.delta) g in
+    let o : l.twos ≡ t.twos = ap (λ x. x.twos) g in
     let c : s.count + 1 ≡ t.count = omega (arith, count_next whole s) in
-    rw (k.0, k.1, d, w, c) refl
+    rw (to_z-of_z w64 r.0 x, to_z-of_z w64 r.1 y, k.0, k.1, d, o, c) refl

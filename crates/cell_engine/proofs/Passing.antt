@@ -1,14 +1,14 @@
 -- The links that come back, and the numbers that they are read back to.
-use Rattle.std.proofs.Common.{◌≡◌, ℕ, zero, suc, ◌+◌, ◌*◌, ◌^◌, ◌<◌, ◌≤◌, Bool, true, false, cond, ℤ, pos, negsuc, ◌+ℤ◌, ◌-ℤ◌, ◌*ℤ◌, neg_ℤ, ◌≤ℤ◌, ◌<ℤ◌, unsigned_abs, refl, sym, ap, ◌∙◌, pow_mono, to_z, of_z, w64, SFits, arith}
+use Rattle.std.proofs.Common.{◌≡◌, ℕ, zero, suc, ◌+◌, ◌*◌, ◌^◌, ◌<◌, ◌≤◌, Bool, true, false, cond, ℤ, pos, negsuc, ◌+ℤ◌, ◌-ℤ◌, ◌*ℤ◌, neg_ℤ, ◌≤ℤ◌, ◌<ℤ◌, unsigned_abs, refl, ap, ◌∙◌, pow_mono, to_z, of_z, w64, SFits, arith}
 use mir.Val.{bool_byte}
 use Rattle.std.proofs.Math.IntN.{pos-*ℤ-pos, pos-*ℤ-negsuc}
 use Rattle.std.proofs.Math.Numerals.{suc-eq-add-one}
 use Rattle.std.proofs.Math.Nat.{pow-suc}
 use Rattle.std.proofs.lemmas.Int.{ints, to_z-of_z, fits_signed_from_abs}
 use Rattle.std.proofs.lemmas.Bool.Decides.{nat_tests}
-use Rattle.rule.specs.Whole.{odd, half, Below}
+use Rattle.rule.specs.Whole.{odd, half}
 use Rattle.rule.proofs.Parity.{odd_yes, odd_no}
-use Rattle.rule.proofs.Ring.{out, lin, *ℤ-dist-l, *ℤ-dist-r, *ℤ-unit}
+use Rattle.rule.proofs.Ring.{lin, *ℤ-dist-l, *ℤ-dist-r, *ℤ-unit}
 use Rattle.cell.specs.Bits.{bit}
 use Rattle.cell.specs.Cells.{gives, taken}
 use Rattle.cell.specs.declared.link.Link.{Link}

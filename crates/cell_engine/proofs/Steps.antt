@@ -1,5 +1,5 @@
 -- One command through a cell: what is told, and the state that it leaves.
-use Rattle.std.proofs.Common.{◌≡◌, ℕ, ◌+◌, ◌<◌, ◌≤◌, ◌∙◌, Bool, true, false, ℤ, pos, ◌+ℤ◌, Some, suc, w16, w64, SFits, to_z, of_z, refl, ap, subst, arith, int_le}
+use Rattle.std.proofs.Common.{◌≡◌, ℕ, ◌+◌, ◌≤◌, ◌∙◌, Bool, true, false, ℤ, pos, ◌+ℤ◌, Some, suc, w16, w64, SFits, to_z, of_z, refl, ap, subst, arith, int_le}
 use mathlib.Core.Logic.{∥∥₁_elim, ∥∥₁_map}
 use native.Mathlib.Bridge.{le_prop}
 use Rattle.std.proofs.lemmas.Int.{ints, to_z-of_z}

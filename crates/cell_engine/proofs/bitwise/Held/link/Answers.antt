@@ -1,4 +1,4 @@
-use Rattle.std.proofs.Common.{◌≡◌, ◌∙◌, ap, rules, w16, w64, SFits, to_z, of_z}
+use Rattle.std.proofs.Common.{◌∙◌, ap, rules, w16, w64, SFits}
 use Rattle.std.proofs.lemmas.Int.{to_z-of_z}
 use Rattle.rule.specs.Whole.{odd}
 use Rattle.cell_engine.specs.CellMeaning.{state_of}

@@ -1,4 +1,4 @@
-use Rattle.std.proofs.Common.{◌≡◌, ◌∙◌, ap, sym, arith, rules}
+use Rattle.std.proofs.Common.{◌∙◌, ap, sym, arith, rules}
 use Rattle.std.proofs.lemmas.Option.{same_Some}
 use Rattle.cell_engine.specs.CellMeaning.{state_of}
 use Rattle.cell_engine.specs.Passing.{sent, command_in}

@@ -69,9 +69,15 @@ one_first z = grind (arith, ints, nat_tests)
 signed : (w : ℕ) (v u z : ℤ) → Within w v → unsigned_abs z < w → Above w v u z → v -ℤ pos (cond (odd u) w 0) ≡ z
 unfolding odd
 signed w v (pos zero) z h l a = omega (arith, ints, a, h)
-signed w v (pos (suc k)) z h l a = let p : pos w *ℤ pos (suc k) ≡ pos (w * k) +ℤ pos w = rw (pos-*ℤ-pos w (suc k)) (omega (arith, ints)) in absurd (omega (arith, lin, p, a, h, l))
-signed w v (negsuc zero) z h l a = let p : pos w *ℤ negsuc zero ≡ neg_ℤ (pos w) = rw (pos-*ℤ-negsuc w zero) (omega (arith, ints)) in omega (arith, lin, p, a, h, l)
-signed w v (negsuc (suc k)) z h l a = let p : pos w *ℤ negsuc (suc k) ≡ neg_ℤ (pos (w * k)) -ℤ pos w -ℤ pos w = rw (pos-*ℤ-negsuc w (suc k)) (omega (arith, ints)) in absurd (omega (arith, lin, p, a, h, l))
+signed w v (pos (suc k)) z h l a =
+    let p : pos w *ℤ pos (suc k) ≡ pos (w * k) +ℤ pos w = rw (pos-*ℤ-pos w (suc k)) (omega (arith, ints)) in
+    absurd (omega (arith, lin, p, a, h, l))
+signed w v (negsuc zero) z h l a =
+    let p : pos w *ℤ negsuc zero ≡ neg_ℤ (pos w) = rw (pos-*ℤ-negsuc w zero) (omega (arith, ints)) in
+    omega (arith, lin, p, a, h, l)
+signed w v (negsuc (suc k)) z h l a =
+    let p : pos w *ℤ negsuc (suc k) ≡ neg_ℤ (pos (w * k)) -ℤ pos w -ℤ pos w = rw (pos-*ℤ-negsuc w (suc k)) (omega (arith, ints)) in
+    absurd (omega (arith, lin, p, a, h, l))
 
 -- ---- both numbers on their way
 -- the places of x and y below one of weight w are known, and the others are still to be given
@@ -131,4 +137,6 @@ within_first false = omega (arith, ints)
 within_first true = omega (arith, ints)
 
 pub pow_more : (k : ℕ) → 2 ^ (k + 1) ≡ 2 * 2 ^ k
-pow_more k = let e : 2 ^ suc k ≡ 2 * 2 ^ k = omega (arith, pow-suc 2 k) in rw (← (suc-eq-add-one k)) e
+pow_more k =
+    let e : 2 ^ suc k ≡ 2 * 2 ^ k = omega (arith, pow-suc 2 k) in
+    rw (← (suc-eq-add-one k)) e

@@ -32,7 +32,9 @@ abbrev pub passage_of : State ℤ → Passage
 passage_of s = record { cell = Started (links s 0); a = half s.a; b = half s.b }
 
 pub passage_is : {p : Passage} (s : State ℤ) → p.cell ≡ Started (links s 0) → p.a ≡ half s.a → p.b ≡ half s.b → p ≡ passage_of s
-passage_is {p = p} s e f g = let h : record { cell = p.cell; a = p.a; b = p.b } ≡ passage_of s = rw (e, f, g) refl in h
+passage_is {p = p} s e f g =
+    let h : record { cell = p.cell; a = p.a; b = p.b } ≡ passage_of s = rw (e, f, g) refl in
+    h
 
 -- ---- the widths
 pub narrow_there : (n : ℕ) (s : State ℤ) → ∥ Reached n s ∥₁ → Narrow n s
@@ -41,7 +43,7 @@ narrow_there n s r = ∥∥₁_elim r (hlevel le_prop) (λ q. subst (Narrow n) q
 pub reached_more : (n : ℕ) (s : State ℤ) → is_zero s.b ≡ false → ∥ Reached n s ∥₁ → ∥ Reached n (next whole s) ∥₁
 reached_more n s z r = ∥∥₁_map r (reached_next n s z)
 
-pub room : (n : ℕ) (s : State ℤ) → n ≤ 48 → Narrow n s → HasRoom s
+room : (n : ℕ) (s : State ℤ) → n ≤ 48 → Narrow n s → HasRoom s
 room n s l h = record { δ = omega (arith, h.δ); twos = omega (arith, h.twos) }
 
 -- ---- the command
@@ -61,7 +63,7 @@ unfolding command links bit
 command_told s = ap Some (fixed_by s.a s.b (odd s.a) (odd s.b) (int_le (pos 0) s.δ) refl refl)
 
 -- ---- the links that come back
-pub opened : (s : State ℤ) → HasRoom s → (taken (passage_of s).cell (plain (passage_of s).a (passage_of s).b 0)).given ≡ links (next whole s) 0
+opened : (s : State ℤ) → HasRoom s → (taken (passage_of s).cell (plain (passage_of s).a (passage_of s).b 0)).given ≡ links (next whole s) 0
 unfolding gives links bit
 opened s w = (cell_obeys s w).1 0
 

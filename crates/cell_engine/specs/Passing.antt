@@ -35,6 +35,6 @@ pub record Stands (p : Passage) (first : Link) (last : ℕ) (x y : ℤ) : Type 0
   pub below_a : Below last x
   pub below_b : Below last y
 
--- The two numbers are the only ones for which the links stand.
+-- Whatever two numbers the links stand for are these two.
 abbrev pub ReadsBack : Passage → Link → ℕ → ℤ × ℤ → Type 0
 ReadsBack p first last r = (x y : ℤ) → Stands p first last x y → (r.0 ≡ x) × (r.1 ≡ y)

@@ -1,5 +1,6 @@
 // The calls of an engine, one by one.
 use crate::relay::Relay;
+use cell_engine::bitwise::CellEngine;
 use engine::engine::Engine;
 use engine::word::WordEngine;
 use rule::command::Command;
@@ -89,6 +90,24 @@ fn check_calls<E: Engine>(rt: &impl Abort, engine: &mut E) -> Result<(), Fail> {
 #[test]
 fn word_engine(rt: HostRuntime) -> Result<(), Fail> {
     check_calls(&rt, &mut WordEngine::new())
+}
+
+#[test]
+fn cell_engine(rt: HostRuntime) -> Result<(), Fail> {
+    check_calls(&rt, &mut CellEngine::new())
+}
+
+// It takes order 48 and refuses 49, and then holds what it held.
+#[test]
+fn orders_of_the_cell_engine(rt: HostRuntime) -> Result<(), Fail> {
+    let mut engine = CellEngine::new();
+    engine.begin(admitted(48, 5, 4)?)?;
+    assert_eq!(rt;
+        engine.begin(admitted(49, 0, 6)?),
+        Err(Reason::OrderAboveLargest.by(Layer::Engine))
+    );
+    assert_eq!(rt; engine.advance(), Ok(Command::Shift));
+    Ok(())
 }
 
 // The engine below is in the middle of a run of its own, of which the one above knows nothing.

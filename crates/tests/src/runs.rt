@@ -1,4 +1,5 @@
 // How many commands whole runs take.
+use cell_engine::bitwise::CellEngine;
 use engine::run::run_to_end;
 use engine::word::WordEngine;
 use rule::fault::Fault;
@@ -57,6 +58,20 @@ fn near_three_quarters_of_every_order(rt: HostRuntime) -> Result<(), Fail> {
             (z.wrapping_sub(1), z.wrapping_add(1), 3 * usize::from(n) - 2)
         };
         assert_eq!(rt; count(admitted(i64::from(n), a, b)?)?, commands);
+    }
+    Ok(())
+}
+
+// Command by command, and in all that it ends with, a run is the same on either engine.
+#[test]
+fn either_engine_tells_the_same_run(rt: HostRuntime) -> Result<(), Fail> {
+    for (a, b, _) in WORST {
+        for (x, y) in [(a, b), (b, a.wrapping_neg()), (0, b), (a, a)] {
+            let pair = admitted(least_order(a, b), x, y)?;
+            let by_words = run_to_end(&mut WordEngine::new(), pair)?;
+            let by_cells = run_to_end(&mut CellEngine::new(), pair)?;
+            assert_eq!(rt; by_cells, by_words);
+        }
     }
     Ok(())
 }

@@ -34,7 +34,7 @@ fourfold_sum : (x y : ℤ) → odd x ≡ true → odd y ≡ true → fourfold (x
 unfolding odd half fourfold
 fourfold_sum x y o p = grind (arith, ints, nat_tests)
 
-fixed_by : (x y : ℤ) (p q d : Bool) → odd x ≡ p → odd y ≡ q → command_by p q (differ (odd (half x)) (odd (half y))) d ≡ command_by p q (fourfold (x +ℤ y)) d
+pub fixed_by : (x y : ℤ) (p q d : Bool) → odd x ≡ p → odd y ≡ q → command_by p q (differ (odd (half x)) (odd (half y))) d ≡ command_by p q (fourfold (x +ℤ y)) d
 fixed_by x y false false d e f = refl
 fixed_by x y false true d e f = refl
 fixed_by x y true false d e f = refl

@@ -1,23 +1,22 @@
 -- One command through a cell: what is told, and the state that it leaves.
-use Rattle.std.proofs.Common.{◌≡◌, ℕ, ◌+◌, ◌≤◌, ◌∙◌, Bool, true, false, ℤ, pos, ◌+ℤ◌, Some, suc, w16, w64, SFits, to_z, of_z, refl, ap, subst, arith, int_le}
+use Rattle.std.proofs.Common.{◌≡◌, ℕ, ◌+◌, ◌≤◌, ◌∙◌, Bool, true, false, ℤ, pos, Some, suc, w16, w64, SFits, to_z, of_z, refl, ap, subst, arith, int_le}
 use mathlib.Core.Logic.{∥∥₁_elim, ∥∥₁_map}
 use native.Mathlib.Bridge.{le_prop}
-use Rattle.std.proofs.lemmas.Int.{ints, to_z-of_z}
-use Rattle.std.proofs.lemmas.Bool.Decides.{nat_tests}
+use Rattle.std.proofs.lemmas.Int.{to_z-of_z}
 use Rattle.rule.specs.Reached.{Reached}
-use Rattle.rule.specs.Rule.{State, command_by, command, next}
+use Rattle.rule.specs.Rule.{State, command, next}
 use Rattle.rule.specs.Theorems.{Narrow}
-use Rattle.rule.specs.Whole.{is_zero, odd, half, fourfold, whole}
+use Rattle.rule.specs.Whole.{is_zero, odd, half, whole}
 use Rattle.rule.proofs.Reached.{reached_next}
 use Rattle.rule.proofs.Fuel.{count_next}
 use Rattle.rule.proofs.Whole.{running_narrow}
-use Rattle.cell.specs.Bits.{bit, differ}
+use Rattle.cell.specs.Bits.{bit}
 use Rattle.cell.specs.Cells.{gives, taken}
 use Rattle.cell.specs.Links.{links}
 use Rattle.cell.specs.Theorems.{HasRoom}
 use Rattle.cell.specs.declared.cell.Cell.TheVariants.{Started}
 use Rattle.cell.specs.declared.link.Link.{Link}
-use Rattle.cell.proofs.Cells.{cell_obeys}
+use Rattle.cell.proofs.Cells.{fixed_by, cell_obeys}
 use Rattle.cell_engine.specs.Passing.{plain, sent, command_in, Gives, Stands, ReadsBack}
 use Rattle.cell_engine.specs.Words.{standing}
 use Rattle.cell_engine.specs.declared.passage.Passage.{Passage}
@@ -47,15 +46,6 @@ room : (n : ℕ) (s : State ℤ) → n ≤ 48 → Narrow n s → HasRoom s
 room n s l h = record { δ = omega (arith, h.δ); twos = omega (arith, h.twos) }
 
 -- ---- the command
-fourfold_sum : (x y : ℤ) → odd x ≡ true → odd y ≡ true → fourfold (x +ℤ y) ≡ differ (odd (half x)) (odd (half y))
-unfolding odd half fourfold
-fourfold_sum x y o p = grind (arith, ints, nat_tests)
-
-fixed_by : (x y : ℤ) (p q d : Bool) → odd x ≡ p → odd y ≡ q → command_by p q (differ (odd (half x)) (odd (half y))) d ≡ command_by p q (fourfold (x +ℤ y)) d
-fixed_by x y false false d e f = refl
-fixed_by x y false true d e f = refl
-fixed_by x y true false d e f = refl
-fixed_by x y true true d e f = rw (fourfold_sum x y e f) refl
 
 -- the cell runs the command of the state
 pub command_told : (s : State ℤ) → command_in (sent (passage_of s)).cell ≡ Some (command whole s)

@@ -5,7 +5,7 @@ use Rattle.std.proofs.lemmas.Int.{ints}
 use Rattle.std.proofs.lemmas.Bool.{both_ways}
 use Rattle.rule.specs.Kind.{Kind, Laws}
 use Rattle.rule.specs.Rule.{State, start, command_by, command, obeyed, next, after, Running, Need}
-use Rattle.rule.proofs.Fuel.{Keeps, kept_after, ends_within}
+use Rattle.rule.proofs.Fuel.{Keeps, kept_after, ends_by_count}
 
 -- δ is α - β, and the twos taken out leave room for both below n. Until a is odd for good, α and β are level.
 -- Each command uses fuel: two for each bit of size, one for an odd b.
@@ -72,5 +72,5 @@ module _ {K : Type 0} (k : Kind K) (Below : ℕ → K → Type 0) (laws : Laws k
 
   pub need_within : (x y : K) → Below n x → Below n y → (m : ℕ) × Need k (start x y) m × (m ≤ 4 * n + 1)
   need_within x y h i =
-      let w = ends_within k (Room k Below n) room_kept (4 * n + 1) (λ s r. omega (arith, r.balance.fuel)) (start x y) (room_start x y h i) in
+      let w = ends_by_count k (Room k Below n) room_kept (4 * n + 1) (λ s r. omega (arith, r.balance.fuel)) (start x y) (room_start x y h i) in
       (w.0, w.1, omega (arith, w.2))

@@ -1,5 +1,5 @@
--- Runs of the rule over any kind of number: one command more, the need, and what a run keeps.
-use Rattle.std.proofs.Common.{◌≡◌, ℕ, zero, suc, ◌+◌, ◌<◌, ◌≤◌, true, false, [], ◌∷◌, ◌++◌, refl, ap, inl, inr, arith}
+-- Runs of the rule over any kind of number: one command more, the need, what a run keeps, and the lemma on fuel that bounds it.
+use Rattle.std.proofs.Common.{◌≡◌, ℕ, zero, suc, ◌+◌, ◌-◌, ◌≤◌, true, false, [], ◌∷◌, ◌++◌, refl, ap, subst, inl, inr, arith}
 use Rattle.std.proofs.lemmas.Bool.{cases_Bool}
 use Rattle.rule.specs.Kind.{Kind}
 use Rattle.rule.specs.Rule.{State, command, next, after, told, Running, Need}
@@ -53,18 +53,40 @@ unfolding after
 kept_after k Fits keeps zero s h r = h
 kept_after k Fits keeps (suc m) s h r = kept_after k Fits keeps m (next k s) (keeps s h (r 0 (omega arith))) (λ j l. r (suc j) (omega arith))
 
--- where such a fact bounds the count by n, the run ends: fuel for all commands up to n is enough
-ends_by : {K : Type 0} (k : Kind K) (Fits : State K → Type 0) → Keeps k Fits → (n : ℕ) → ((s : State K) → Fits s → s.count ≤ n) → (fuel : ℕ) (s : State K) → n < fuel + s.count → Fits s → (m : ℕ) × Need k s m
-ends_by k Fits keeps n most zero s l h = absurd (omega (arith, most s h))
-ends_by k Fits keeps n most (suc fuel) s l h =
+-- ---- fuel: a family of facts that holds of a state with so much fuel, and burns one with each command while b is not 0
+abbrev pub Burns : {K : Type 0} → Kind K → (ℕ → State K → Type 0) → Type 0
+Burns {K = K} k Fits = (e : ℕ) (s : State K) → Fits e s → k.is_zero s.b ≡ false → (d : ℕ) × (e ≡ suc d) × Fits d (next k s)
+
+-- from a state with fuel e the run ends, within e commands
+abbrev Ends : {K : Type 0} → Kind K → ℕ → State K → Type 0
+Ends k e s = (m : ℕ) × Need k s m × (m ≤ e)
+
+ends_now : {K : Type 0} (k : Kind K) (e : ℕ) (s : State K) → k.is_zero s.b ≡ true → Ends k e s
+ends_now k e s z = (0, need_none k s z, omega arith)
+
+ends_later : {K : Type 0} (k : Kind K) (e : ℕ) (s : State K) → k.is_zero s.b ≡ false → Ends k e (next k s) → Ends k (suc e) s
+ends_later k e s n h = (suc h.0, need_more k s h.0 n h.1, omega (arith, h.2))
+
+pub ends_within : {K : Type 0} (k : Kind K) (Fits : ℕ → State K → Type 0) → Burns k Fits → (e : ℕ) (s : State K) → Fits e s → (m : ℕ) × Need k s m × (m ≤ e)
+ends_within k Fits burns zero s h =
+    elim (cases_Bool (k.is_zero s.b)) [ inl z ↦ ends_now k 0 s z | inr n ↦ absurd (omega (arith, (burns 0 s h n).1)) ]
+ends_within k Fits burns (suc e) s h =
     elim (cases_Bool (k.is_zero s.b)) [
-      | inl z ↦ (0, need_none k s z)
-      | inr z ↦
-          let w = ends_by k Fits keeps n most fuel (next k s) (omega (arith, count_next k s)) (keeps s h z) in
-          (suc w.0, need_more k s w.0 z w.1)
+      | inl z ↦ ends_now k (suc e) s z
+      | inr n ↦
+          let w = burns (suc e) s h n in
+          let l : w.0 ≡ e = omega (arith, w.1) in
+          ends_later k e s n (ends_within k Fits burns e (next k s) (subst (λ (d : ℕ). Fits d (next k s)) l w.2))
     ]
 
-pub ends_within : {K : Type 0} (k : Kind K) (Fits : State K → Type 0) → Keeps k Fits → (n : ℕ) → ((s : State K) → Fits s → s.count ≤ n) → (s : State K) → Fits s → (m : ℕ) × Need k s m × (m + s.count ≤ n)
-ends_within k Fits keeps n most s h =
-    let w = ends_by k Fits keeps n most (suc n) s (omega arith) h in
-    (w.0, w.1, omega (arith, count-after k w.0 s, most (after k w.0 s) (kept_after k Fits keeps w.0 s h w.1.before)))
+-- ---- where a fact that each command keeps bounds the count by n, the run ends by the count n: what the count leaves of n is the fuel
+pub ends_by_count : {K : Type 0} (k : Kind K) (Fits : State K → Type 0) → Keeps k Fits → (n : ℕ) → ((s : State K) → Fits s → s.count ≤ n) → (s : State K) → Fits s → (m : ℕ) × Need k s m × (m + s.count ≤ n)
+ends_by_count k Fits keeps n most s h =
+    let w = ends_within k (λ e t. Fits t × (e + t.count ≡ n)) counted (n - s.count) s (h, omega (arith, most s h)) in
+    (w.0, w.1, omega (arith, w.2, most s h))
+  where
+    counted : Burns k (λ e t. Fits t × (e + t.count ≡ n))
+    counted e t f z =
+        let kept = keeps t f.0 z in
+        let more : suc t.count ≤ n = omega (arith, count_next k t, most (next k t) kept) in
+        (e - 1, omega (arith, more, f.1), (kept, omega (arith, count_next k t, more, f.1)))

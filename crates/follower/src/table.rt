@@ -33,6 +33,10 @@ pub trait Table: Copy {
     fn start(pair: AdmittedPair) -> Self
         ensures { rows result ≡ first pair };
 
+    // A call of its own, since it is asked before each command: a table that takes all of them need not be turned to tell.
+    fn takes(self, command: Command) -> bool
+        ensures { result ≡ accepts (rows self) command };
+
     fn turned(self, command: Command) -> Option<Self>
         ensures { Settled rows (accepts (rows self) command) (turns (rows self) command) result };
 
@@ -79,8 +83,7 @@ impl<T: Table> Follower for TableFollower<T> {
     }
 
     fn takes(&self, command: Command) -> bool {
-        self.table
-            .is_some_and(|table| table.turned(command).is_some())
+        self.table.is_some_and(|table| table.takes(command))
     }
 
     fn follow(&mut self, command: Command) -> Result<(), Fault> {

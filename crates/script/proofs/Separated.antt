@@ -1,26 +1,12 @@
--- The pieces that `split` gives at blanks and tabs, but for the empty ones, are the words of a text.
-use Rattle.std.proofs.Common.{◌≡◌, ◌≢◌, ℕ, ◌<◌, ◌≤◌, Bool, true, false, cond, not, eqb, List, [], ◌∷◌, ◌++◌, length, get_or, take, drop, Some, None, Option, sym, refl, ap, ◌∙◌, subst, ⊎_elim, arith, length-drop, take-append-drop, MatchOption, ne_eqb, rules}
-use Rattle.std.specs.Char.{char_set_contains}
-use Rattle.std.specs.Borrow.{Bor}
-use Rattle.std.specs.Fn.{CalledAt}
-use denote.Param.Members.{Mut}
-use Rattle.std.specs.Iterator.{AlwaysYields}
-use Rattle.std.specs.Iterator.Adapters.{filter_callee, filter_source, filter_steps}
-use Rattle.std.proofs.lemmas.Iterator.Consumers.{YieldsList-at, YieldsList-from_filter}
-use Rattle.std.specs.List.{All, filter, slice_split, onto_first}
-use Rattle.std.specs.declared.iter.Filter.{Filter}
-use Rattle.std.specs.declared.str.Split.{Split}
+-- What `trim_start_matches` and `find` give at blanks and tabs is how a text is cut into words.
+use Rattle.std.proofs.Common.{◌≡◌, ℕ, zero, suc, ◌<◌, ◌≤◌, Bool, true, false, cond, List, [], ◌∷◌, ◌++◌, length, get_or, take, drop, IfSome, Some, None, Option, sym, refl, ap, ◌∙◌, subst, ⊎_elim, true≢false, arith, length-drop, rules}
+use mathlib.Core.Bool.{false≢true}
+use lib.Utf8.{scalar}
+use Rattle.std.specs.Str.Pattern.{FindsPrefixBy, FindsBy, IsTrimStartMatches, IsFullyTrimmed, CutsPrefixes}
 use Rattle.std.specs.Str.{NoCharPasses}
-use Rattle.std.specs.Str.Iter.{split_has_more, split_pattern, split_steps, split_text}
-use Rattle.std.specs.Str.Pattern.{FindsBy}
-use Rattle.std.proofs.lemmas.Iterator.{YieldsList}
-use Rattle.std.proofs.lemmas.Iterator.Splits.{YieldsList-from_shown_while}
-use Rattle.std.proofs.lemmas.List.Elements.{All-from_get_or}
-use Rattle.std.proofs.lemmas.List.Splits.{slice_split-cons_no, slice_split-cons_yes, slice_split_at, slice_split_none}
-use Rattle.std.proofs.lemmas.Str.{NoCharPasses-byte}
 use Rattle.std.proofs.lemmas.Str.Pattern.{drop_at_char}
+use Rattle.std.proofs.lemmas.Str.{encode_ascii, NoCharPasses-byte}
 use Rattle.std.proofs.str.Laws.{order}
-use Rattle.script.specs.Arguments.{behind, counted, held, one}
 use Rattle.script.specs.Words.{after_word, first_word, from, separates, skipped, up_to}
 
 -- ---- what separates
@@ -31,154 +17,86 @@ separates_low c h = search rules
 separates_high : (c : ℕ) → 128 ≤ c → separates c ≡ false
 separates_high c h = search rules
 
-apart : (bs : List ℕ) → NoCharPasses separates bs → All (λ c. separates c ≡ false) bs
-apart bs none = All-from_get_or (λ c. separates c ≡ false) bs 0
-    (λ i within. ⊎_elim (λ low. NoCharPasses-byte separates bs i none within low) (λ high. separates_high (get_or bs i 0) high) (order (get_or bs i 0) 128))
+separates_scalar : (c : ℕ) → separates c ≡ true → scalar c ≡ true
+separates_scalar c h = search rules
 
--- ---- the pieces, which are cut at each byte that separates
+-- ---- the front
 
-abbrev pieces : List ℕ → List (List ℕ)
-pieces = slice_split separates
+skipped_one : (c : ℕ) (cs : List ℕ) → separates c ≡ true → skipped (c ∷ cs) ≡ skipped cs
+skipped_one c cs h = ap (λ b. cond b (skipped cs) (c ∷ cs)) h
 
-piece_at : (text piece rest : List ℕ) (more : Bool) (o : Option (ℕ × ℕ)) → FindsBy separates text o
-    → MatchOption o ((piece ≡ text) × (more ≡ false)) (λ q. 0 < q.1 → (piece ≡ take q.0 text) × (more ≡ true) × (rest ≡ drop q.1 text))
-    → pieces text ≡ piece ∷ cond more (pieces rest) []
-piece_at text piece rest more None f m =
-    slice_split_none separates text (apart text f) ∙ ap (λ p. p ∷ []) (sym m.0) ∙ ap (λ b. piece ∷ cond b (slice_split separates rest) []) (sym m.1)
-piece_at text piece rest more (Some q) f m =
-    let cut : drop q.0 text ≡ f.1.0 ∷ drop q.1 text = drop_at_char f.1.0 text q.0 q.1 f.1.2 (separates_low f.1.0 f.1.1) in
-    let whole : text ≡ take q.0 text ++ f.1.0 ∷ drop q.1 text = sym (take-append-drop q.0 text) ∙ ap (λ r. take q.0 text ++ r) cut in
-    let left = m (omega (arith, ap length cut, length-drop q.0 text, length-drop q.1 text)) in
-    ap (slice_split separates) whole ∙ slice_split_at separates (take q.0 text) f.1.0 (drop q.1 text) (apart (take q.0 text) f.0) f.1.1
-    ∙ ap (λ p. p ∷ slice_split separates (drop q.1 text)) (sym left.0) ∙ ap (λ r. piece ∷ slice_split separates r) (sym left.2)
-    ∙ ap (λ b. piece ∷ cond b (slice_split separates rest) []) (sym left.1)
+-- What a pattern of a blank and a tab says of the front of a text, for every test that agrees with it.
+abbrev pub Begins : List ℕ → Option ℕ → Type 0
+Begins m o = (t : ℕ → Bool) → ((c : ℕ) → separates c ≡ t c) → FindsPrefixBy t m o
 
--- a list of characters as a pattern
-abbrev Fits : List ℕ → (ℕ → Bool) → Type 0
-Fits list t = (c : ℕ) → char_set_contains list c ≡ t c
+skipped_peeled : (s ns r : List ℕ) → CutsPrefixes Begins s ns r → skipped s ≡ skipped r
+skipped_peeled s [] r e = ap skipped (sym e)
+skipped_peeled s (n ∷ ns) r h =
+    let such = h.2 separates (λ _. refl) in
+    skipped_peeled s ns h.0 h.1 ∙ ap skipped (drop_at_char such.0 h.0 0 n such.2 (separates_low such.0 such.1))
+    ∙ skipped_one such.0 (drop n h.0) such.1 ∙ ap skipped (sym h.3)
 
-abbrev Found : List ℕ → List ℕ → Option (ℕ × ℕ) → Type 0
-Found list text o = (t : ℕ → Bool) → Fits list t → FindsBy t text o
+stopped : (x : ℕ) (xs : List ℕ) (o : Option ℕ) → FindsPrefixBy separates (x ∷ xs) o → IfSome o (λ n. n ≡ 0) → skipped (x ∷ xs) ≡ x ∷ xs
+stopped x xs None b z = kept (separates x) refl
+  where
+    kept : (t : Bool) → separates x ≡ t → skipped (x ∷ xs) ≡ x ∷ xs
+    kept false e = ap (λ t. cond t (skipped xs) (x ∷ xs)) e
+    kept true e = absurd (true≢false (sym e ∙ b x xs (separates_scalar x e) (sym (ap (λ l. l ++ xs) (encode_ascii x (separates_low x e))))))
+stopped x xs (Some n) b z =
+    absurd (omega (arith, z, ap length (drop_at_char b.0 (x ∷ xs) 0 n b.2 (separates_low b.0 b.1)), length-drop n (x ∷ xs)))
 
-abbrev Kept : List ℕ → List ℕ → Type 0
-Kept list list' = (t : ℕ → Bool) → Fits list t → Fits list' t
+skipped_stops : (r : List ℕ) → IsFullyTrimmed Begins r → skipped r ≡ r
+skipped_stops [] h = refl
+skipped_stops (x ∷ xs) h = stopped x xs h.0 (h.1 separates (λ _. refl)) h.2
 
-pieces_yielded : {s : Split (List ℕ)} (text : List ℕ) → split_text s ≡ text → split_has_more s ≡ true → split_pattern s ≡ 32 ∷ 9 ∷ [] → YieldsList (split_steps Found Kept) (λ x. x.now) s (pieces text)
-pieces_yielded {s} text is more pattern =
-    let shown = λ (t : _). cond (split_has_more t) (pieces (split_text t)) [] in
-    subst (YieldsList (split_steps Found Kept) (λ x. x.now) s) (λ i. cond (more i) (pieces (is i)) [])
-    (YieldsList-from_shown_while (split_steps Found Kept) (λ x. x.now) shown (λ t. Fits (split_pattern t) separates)
-    (λ t u fits step. ap (λ b. length (cond b (pieces (split_text t)) [])) (sym step.0))
-    (λ t x u fits step.
-    let cut = step.1.1.1 in (
-      step.1.0 separates fits,
-      ap (λ b. cond b (pieces (split_text t)) []) (sym step.0) ∙ piece_at (split_text t) x.now (split_text u) (split_has_more u) cut.0 (cut.1 separates fits) cut.2,
-    ))
-    s (subst (λ list. Fits list separates) (sym pattern) (λ c. refl)))
+skipped_trimmed : (s r : List ℕ) → IsTrimStartMatches Begins s r → skipped s ≡ r
+skipped_trimmed s r h = skipped_peeled s h.0.0 r h.0.1 ∙ skipped_stops r h.1
 
--- ---- the words
+-- ---- the word
 
-abbrev filled : List ℕ → Bool
-filled [] = false
-filled (c ∷ cs) = true
+abbrev Solid : List ℕ → Type 0
+Solid bs = (i : ℕ) → i < length bs → separates (get_or bs i 0) ≡ false
 
-filled_is : (word : List ℕ) → not (eqb (length word) 0) ≡ filled word
-filled_is [] = refl
-filled_is (c ∷ cs) = ap not (ne_eqb (length (c ∷ cs)) 0 (λ e. omega (arith, e)))
+solid_without : (bs : List ℕ) → NoCharPasses separates bs → Solid bs
+solid_without bs w i lt = ⊎_elim (λ low. NoCharPasses-byte separates bs i w lt low) (λ high. separates_high (get_or bs i 0) high) (order (get_or bs i 0) 128)
 
-abbrev pub words : List ℕ → List (List ℕ)
-words text = filter filled (pieces text)
+solid_rest : (c : ℕ) (cs : List ℕ) → Solid (c ∷ cs) → Solid cs
+solid_rest c cs h i lt = h (suc i) (omega (arith, lt))
 
--- the first piece of a text is its front, and the others have the words of what is left
-abbrev Unjoined : List ℕ → Type 0
-Unjoined text = (rest : List (List ℕ)) × (pieces text ≡ up_to text ∷ rest) × (filter filled rest ≡ words (from text))
+up_to_solid : (bs : List ℕ) → Solid bs → up_to bs ≡ bs
+up_to_solid [] h = refl
+up_to_solid (c ∷ cs) h = ap (λ b. cond b [] (c ∷ up_to cs)) (h 0 (omega arith)) ∙ ap (λ l. c ∷ l) (up_to_solid cs (solid_rest c cs h))
 
-unjoined_more : (c : ℕ) (cs : List ℕ) (t : Bool) → separates c ≡ t → Unjoined cs → Unjoined (c ∷ cs)
-unjoined_more c cs true e more =
-    let cut = slice_split-cons_yes separates c cs e in (
-      pieces cs,
-      cut ∙ ap (λ b. cond b [] (c ∷ up_to cs) ∷ pieces cs) (sym e),
-      ap (filter filled) (sym cut) ∙ ap (λ b. words (cond b (c ∷ cs) (from cs))) (sym e),
-    )
-unjoined_more c cs false e more = (
-  more.0,
-  slice_split-cons_no separates c cs e ∙ ap (onto_first c) more.1 ∙ ap (λ b. cond b [] (c ∷ up_to cs) ∷ more.0) (sym e),
-  more.2 ∙ ap (λ b. words (cond b (c ∷ cs) (from cs))) (sym e),
-)
+from_solid : (bs : List ℕ) → Solid bs → from bs ≡ []
+from_solid [] h = refl
+from_solid (c ∷ cs) h = ap (λ b. cond b (c ∷ cs) (from cs)) (h 0 (omega arith)) ∙ from_solid cs (solid_rest c cs h)
 
-unjoined : (text : List ℕ) → Unjoined text
-unjoined [] = ([], refl, refl)
-unjoined (c ∷ cs) = unjoined_more c cs (separates c) refl (unjoined cs)
+up_to_cut : (bs : List ℕ) (i : ℕ) → Solid (take i bs) → separates (get_or bs i 0) ≡ true → up_to bs ≡ take i bs
+up_to_cut [] i h e = absurd (false≢true e)
+up_to_cut (c ∷ cs) zero h e = ap (λ b. cond b [] (c ∷ up_to cs)) e
+up_to_cut (c ∷ cs) (suc i) h e = ap (λ b. cond b [] (c ∷ up_to cs)) (h 0 (omega arith)) ∙ ap (λ l. c ∷ l) (up_to_cut cs i (solid_rest c (take i cs) h) e)
 
--- a word and the words behind it, where there is one
-abbrev onto_word : List ℕ → List (List ℕ) → List (List ℕ)
-onto_word [] more = []
-onto_word (c ∷ cs) more = (c ∷ cs) ∷ more
+from_cut : (bs : List ℕ) (i : ℕ) → Solid (take i bs) → separates (get_or bs i 0) ≡ true → from bs ≡ drop i bs
+from_cut [] i h e = absurd (false≢true e)
+from_cut (c ∷ cs) zero h e = ap (λ b. cond b (c ∷ cs) (from cs)) e
+from_cut (c ∷ cs) (suc i) h e = ap (λ b. cond b (c ∷ cs) (from cs)) (h 0 (omega arith)) ∙ from_cut cs i (solid_rest c (take i cs) h) e
 
-abbrev Turned : List ℕ → Type 0
-Turned text = words text ≡ onto_word (first_word text) (words (after_word text))
+-- ---- the end that `find` gives
 
-turned_more : (c : ℕ) (cs : List ℕ) (t : Bool) → separates c ≡ t → Unjoined (c ∷ cs) → Turned cs → Turned (c ∷ cs)
-turned_more c cs true e front more =
-    ap (filter filled) (slice_split-cons_yes separates c cs e) ∙ more
-    ∙ ap (λ b. onto_word (up_to (cond b (skipped cs) (c ∷ cs))) (words (from (cond b (skipped cs) (c ∷ cs))))) (sym e)
-turned_more c cs false e front more =
-    ap (filter filled) front.1 ∙ ap (λ b. filter filled (cond b [] (c ∷ up_to cs) ∷ front.0)) e ∙ ap (λ ws. (c ∷ up_to cs) ∷ ws) front.2
-    ∙ ap (λ b. onto_word (cond b [] (c ∷ up_to cs)) (words (from (c ∷ cs)))) (sym e)
-    ∙ ap (λ b. onto_word (up_to (cond b (skipped cs) (c ∷ cs))) (words (from (cond b (skipped cs) (c ∷ cs))))) (sym e)
+separates_found : (bs : List ℕ) (i j : ℕ) → FindsBy separates bs (Some (i, j)) → separates (get_or bs i 0) ≡ true
+separates_found bs i j f = subst (λ x. separates x ≡ true) (sym (f.1.2.byte (separates_low f.1.0 f.1.1))) f.1.1
 
-turned : (text : List ℕ) → Turned text
-turned [] = refl
-turned (c ∷ cs) = turned_more c cs (separates c) refl (unjoined (c ∷ cs)) (turned cs)
+-- ---- both
 
--- ---- what calls of `next` give
+pub word_found : (text left : List ℕ) (i j : ℕ) → IsTrimStartMatches Begins text left → FindsBy separates left (Some (i, j)) → (first_word text ≡ take i left) × (after_word text ≡ drop i left)
+word_found text left i j p f =
+    let start = skipped_trimmed text left p in
+    let solid = solid_without (take i left) f.0 in
+    let ends = separates_found left i j f in
+    (ap up_to start ∙ up_to_cut left i solid ends, ap from start ∙ from_cut left i solid ends)
 
-module _ {S : Type 0} (steps : S → Option (Bor (List ℕ)) → S → Type 0) where
-  abbrev Left : S → List (List ℕ) → Type 0
-  Left = AlwaysYields steps (λ x. x.now)
-
-  none_left : (s t : S) (word : List ℕ) (more : List (List ℕ)) → Left s (onto_word word more) → steps s None t → word ≡ []
-  none_left s t [] more left step = refl
-  none_left s t (c ∷ cs) more left step = absurd (left.0 t step)
-
-  word_left : (s t : S) (word : List ℕ) (more : List (List ℕ)) (x : Bor (List ℕ)) → Left s (onto_word word more) → steps s (Some x) t → (x.now ≡ word) × (x.now ≢ []) × Left t more
-  word_left s t [] more x left step = absurd (left x t step)
-  word_left s t (c ∷ cs) more x left step = ((left.1 x t step).0, λ e. cc (left.1 x t step).0, (left.1 x t step).1)
-
-  both_held : (s t u : S) (word next : List ℕ) (more : List (List ℕ)) (first second : Option (Bor (List ℕ))) → Left s (onto_word word (onto_word next more)) → steps s first t → steps t second u
-      → held (first, second) ≡ counted word next
-  both_held s t u [] next more None second left step after = refl
-  both_held s t u [] next more (Some x) second left step after = absurd (left x t step)
-  both_held s t u (c ∷ cs) next more None second left step after = absurd (left.0 t step)
-  both_held s t u (c ∷ cs) [] more (Some x) None left step after = ap one (left.1 x t step).0
-  both_held s t u (c ∷ cs) [] more (Some x) (Some y) left step after = absurd ((left.1 x t step).1 y u after)
-  both_held s t u (c ∷ cs) (d ∷ ds) more (Some x) None left step after = absurd ((left.1 x t step).1.0 u after)
-  both_held s t u (c ∷ cs) (d ∷ ds) more (Some x) (Some y) left step after = refl
-
--- of the pieces of a text, those that are not empty
-module _ {F : Type 0} {s : Split (List ℕ)} {i : Filter (Split (List ℕ)) F} {f : F} (text : List ℕ) (is : split_text s ≡ text) (more : split_has_more s ≡ true) (pattern : split_pattern s ≡ 32 ∷ 9 ∷ [])
-    (source : filter_source i ≡ s) (callee : filter_callee i ≡ f) (g : Mut F (Bor (Bor (List ℕ)) × Unit {0}) Bool) where
-  abbrev pub Step : Filter (Split (List ℕ)) F → Option (Bor (List ℕ)) → Filter (Split (List ℕ)) F → Type 0
-  Step = filter_steps (split_steps Found Kept) g
-
-  -- the closure answers whether its piece is not empty
-  abbrev pub Tests : Type 0
-  Tests = (x : Bor (List ℕ)) (b : Bool) (q : F) → CalledAt g f x b q → (q ≡ f) × (b ≡ not (eqb (length x.now) 0))
-
-  words_left : Tests → Left Step i (words text)
-  words_left tests =
-      (YieldsList-from_filter g filled (YieldsList-at source (pieces_yielded text is more pattern)) callee
-      (λ x b q k. let test = tests x b q k in (test.0, test.1 ∙ filled_is x.now))).runs
-
-  pub no_word : (t : _) → Step i None t → Tests → first_word text ≡ []
-  no_word t step tests = none_left Step i t (first_word text) (words (after_word text)) (subst (Left Step i) (turned text) (words_left tests)) step
-
-  pub a_word : (t : _) (x : Bor (List ℕ)) → Step i (Some x) t → Tests → (x.now ≡ first_word text) × (x.now ≢ []) × Left Step t (words (after_word text))
-  a_word t x step tests = word_left Step i t (first_word text) (words (after_word text)) x (subst (Left Step i) (turned text) (words_left tests)) step
-
-  -- the two words behind the first
-  pub words_behind : (t u v : _) (x : Bor (List ℕ)) (first second : Option (Bor (List ℕ))) → Step i (Some x) t → Step t first u → Step u second v → Tests → held (first, second) ≡ behind (after_word text)
-  words_behind t u v x first second step after last tests =
-      let left = after_word text in
-      both_held Step t u v (first_word left) (first_word (after_word left)) (words (after_word (after_word left))) first second
-      (subst (Left Step t) (turned left ∙ ap (onto_word (first_word left)) (turned (after_word left))) (a_word t x step tests).2) after last
+pub word_unfound : (text left : List ℕ) → IsTrimStartMatches Begins text left → FindsBy separates left None → (first_word text ≡ left) × (after_word text ≡ [])
+word_unfound text left p f =
+    let start = skipped_trimmed text left p in
+    let solid = solid_without left f in
+    (ap up_to start ∙ up_to_solid left solid, ap from start ∙ from_solid left solid)

@@ -7,6 +7,7 @@ use crate::argument::LARGEST_BUFFER;
 use crate::verb::Verb;
 use frame::hex::HexFault;
 use std::alloc::AllocError;
+use std::error::Error;
 use std::fmt;
 
 // Why a line is no call; a fault of one word shows the word.
@@ -28,6 +29,17 @@ pub enum LineError<'a> {
     Wrong(LineFault<'a>),
     NoMemory,
 }
+
+impl<'a> fmt::Display for LineError<'a> {
+    fn fmt<W: fmt::Write>(&self, f: &mut fmt::Formatter<W>) -> fmt::Result {
+        match *self {
+            Self::Wrong(fault) => write!(f, "{fault}"),
+            Self::NoMemory => write!(f, "{AllocError}"),
+        }
+    }
+}
+
+impl<'a> Error for LineError<'a> {}
 
 impl<'a> From<LineFault<'a>> for LineError<'a> {
     ghost from_gives = { λ fault r. r ≡ Wrong fault };
@@ -73,8 +85,8 @@ impl<'a> fmt::Display for LineFault<'a> {
                 let largest = u64::MAX;
                 write!(f, "'{word}' is not a number from 0 to {largest}")
             }
-            LineFault::OddDigits => HexFault::OddLength.fmt(f),
-            LineFault::NotADigit => HexFault::NotADigit.fmt(f),
+            LineFault::OddDigits => write!(f, "{}", HexFault::OddLength),
+            LineFault::NotADigit => write!(f, "{}", HexFault::NotADigit),
             LineFault::BufferTooLong => write!(f, "a buffer has at most {LARGEST_BUFFER} bytes"),
         }
     }

@@ -6,3 +6,4 @@ pub mod line;
 pub mod parse;
 pub mod report;
 pub mod verb;
+mod word;

@@ -1,18 +1,30 @@
 // One line of a script, read.
 ghost use Rattle.std.specs.Prelude.{◌≡◌, ℕ, ◌≤◌, Ok, Err};
-ghost use Rattle.script.specs.Arguments.{FrameIn, Makes, NumberIn, Unframed, Unmade, held};
+ghost use Rattle.script.specs.Arguments.{FrameIn, Makes, NumberIn, Unframed, Unmade, behind, held};
 ghost use Rattle.script.specs.Lines.{ReadsLine};
 
 use crate::argument;
 use crate::argument::LARGEST_BUFFER;
 use crate::fault::{LineError, LineFault};
 use crate::verb::Verb;
+use crate::word::first_word;
 use frame::hex;
 use session::call::Call;
 use std::alloc::Global;
 
 // The first two of the words behind the word of a call.
 type Arguments<'a> = (Option<&'a str>, Option<&'a str>);
+
+fn arguments(text: &str) -> Arguments<'_>
+    ensures { held result ≡ behind text.now }
+{
+    let (first, rest) = first_word(text);
+    let (second, _) = first_word(rest);
+    (
+        (!first.is_empty()).then_some(first),
+        (!second.is_empty()).then_some(second),
+    )
+}
 
 fn number<'a>(verb: Verb, arguments: Arguments<'a>) -> Result<u64, LineFault<'a>>
     ensures { elim result [ Ok n ↦ NumberIn (held arguments.entry) n | Err f ↦ (n : ℕ) → NumberIn (held arguments.entry) n → ⊥ ] }
@@ -62,14 +74,10 @@ fn call<'a>(heap: Global, verb: Verb, arguments: Arguments<'a>) -> Result<Call, 
 pub fn read_line(heap: Global, line: &str) -> Result<Option<Call>, LineError<'_>>
     ensures { ReadsLine line.now result }
 {
-    let mut words = line.split([' ', '\t']).filter(|word| !word.is_empty());
-    let Some(word) = words.next() else {
-        return Ok(None);
-    };
-    if word.starts_with('#') {
+    let (word, rest) = first_word(line);
+    if word.is_empty() || word.starts_with('#') {
         return Ok(None);
     }
     let verb = Verb::try_from(word)?;
-    let arguments = (words.next(), words.next());
-    Ok(Some(call(heap, verb, arguments)?))
+    Ok(Some(call(heap, verb, arguments(rest))?))
 }

@@ -37,13 +37,13 @@ fn trace(rt: &HostRuntime, pair: Result<AdmittedPair, Fault>) -> anyhow::Result<
 
 fn run(rt: &HostRuntime) -> anyhow::Result<()> {
     let heap = rt.alloc();
-    let words = env::args(rt)?.skip(1).collect::<Vec<String>>(heap)?;
-    match words.as_slice() {
-        [frame] => trace(
+    let mut words = env::args(rt)?.skip(1);
+    match (words.next(), words.next(), words.next(), words.next()) {
+        (Some(frame), None, None, None) => trace(
             rt,
             read_pair(hex::bytes_of(heap, frame.as_str())?.as_slice()),
         ),
-        [order, a, b] => trace(
+        (Some(order), Some(a), Some(b), None) => trace(
             rt,
             admitted(
                 number(order.as_str())?,

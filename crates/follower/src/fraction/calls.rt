@@ -59,6 +59,10 @@ impl Table for KeptRows {
         }
     }
 
+    fn takes(self, _: Command) -> bool {
+        true
+    }
+
     fn turned(self, command: Command) -> Option<KeptRows> {
         Some(KeptRows {
             first: self.first.after(command),

@@ -1,10 +1,11 @@
 // The calls of an engine, one by one.
+use crate::refused::check_refused;
 use crate::relay::Relay;
 use cell_engine::bitwise::CellEngine;
 use engine::engine::Engine;
 use engine::word::WordEngine;
 use rule::command::Command;
-use rule::fault::{Layer, Reason};
+use rule::fault::Layer;
 use rule::pair::admitted;
 use std::process::Abort;
 use std::test::Fail;
@@ -40,10 +41,7 @@ fn check_calls<E: Engine>(rt: &impl Abort, engine: &mut E) -> Result<(), Fail> {
         ..Answers::default()
     };
     assert_eq!(rt; Answers::of(engine), idle);
-    assert_eq!(rt;
-        engine.advance(),
-        Err(Reason::NothingHeld.by(Layer::Engine))
-    );
+    check_refused(rt, engine.advance(), 22, Layer::Engine, 0);
     assert_eq!(rt; Answers::of(engine), idle);
 
     engine.begin(admitted(3, 0, 6)?)?;
@@ -65,7 +63,7 @@ fn check_calls<E: Engine>(rt: &impl Abort, engine: &mut E) -> Result<(), Fail> {
         ..Answers::default()
     };
     assert_eq!(rt; Answers::of(engine), over);
-    assert_eq!(rt; engine.advance(), Err(Reason::RunOver.by(Layer::Engine)));
+    check_refused(rt, engine.advance(), 24, Layer::Engine, 0);
     assert_eq!(rt; Answers::of(engine), over);
 
     engine.begin(admitted(3, 5, 4)?)?;
@@ -102,10 +100,8 @@ fn cell_engine(rt: HostRuntime) -> Result<(), Fail> {
 fn orders_of_the_cell_engine(rt: HostRuntime) -> Result<(), Fail> {
     let mut engine = CellEngine::new();
     engine.begin(admitted(48, 5, 4)?)?;
-    assert_eq!(rt;
-        engine.begin(admitted(49, 0, 6)?),
-        Err(Reason::OrderAboveLargest.by(Layer::Engine))
-    );
+    let above = engine.begin(admitted(49, 0, 6)?);
+    check_refused(&rt, above, 25, Layer::Engine, 0);
     assert_eq!(rt; engine.advance(), Ok(Command::Shift));
     Ok(())
 }

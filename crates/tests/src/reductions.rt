@@ -16,11 +16,16 @@ fn reduced(pair: AdmittedPair) -> Result<Reduction, Fault> {
     Ok(reduction)
 }
 
-// Everything that a reduction promises, in wide numbers and by Euclid's division algorithm.
-fn check_reduction(rt: &impl Abort, pair: AdmittedPair) -> Result<(), Fail> {
+// Everything that the reduction of the pair of these numbers promises, in wide numbers and by Euclid's division algorithm.
+fn check_reduction(rt: &impl Abort, order: i64, a: i64, b: i64) -> Result<(), Fail> {
+    let pair = admitted(order, a, b)?;
+    assert_eq!(rt;
+        (i64::from(pair.order().value()), pair.a(), pair.b()),
+        (order, a, b)
+    );
     let r = reduced(pair)?;
-    assert_eq!(rt; r.g, euclid(pair.a(), pair.b()));
-    let (a, b) = (i128::from(pair.a()), i128::from(pair.b()));
+    assert_eq!(rt; r.g, euclid(a, b));
+    let (a, b) = (i128::from(a), i128::from(b));
     let (u, v) = (i128::from(r.u), i128::from(r.v));
     assert_eq!(rt;
         u.wrapping_mul(a).wrapping_add(v.wrapping_mul(b)),
@@ -38,15 +43,15 @@ fn check_reduction(rt: &impl Abort, pair: AdmittedPair) -> Result<(), Fail> {
 }
 
 // The same of both operands in either place and with either sign, where the second is not 0.
-fn check_all_ways(rt: &impl Abort, order: Order, a: i64, b: i64) -> Result<(), Fail> {
+fn check_all_ways(rt: &impl Abort, order: i64, a: i64, b: i64) -> Result<(), Fail> {
     let minus_a = a.wrapping_neg();
     let minus_b = b.wrapping_neg();
     for (x, y) in [(a, b), (a, minus_b), (minus_a, b), (minus_a, minus_b)] {
         if y != 0 {
-            check_reduction(rt, AdmittedPair::new(order, x, y)?)?;
+            check_reduction(rt, order, x, y)?;
         }
         if x != 0 {
-            check_reduction(rt, AdmittedPair::new(order, y, x)?)?;
+            check_reduction(rt, order, y, x)?;
         }
     }
     Ok(())
@@ -55,10 +60,9 @@ fn check_all_ways(rt: &impl Abort, order: Order, a: i64, b: i64) -> Result<(), F
 // Every pair of order 5, and so every parity, sign, zero and equality.
 #[test]
 fn every_pair_of_order_five(rt: HostRuntime) -> Result<(), Fail> {
-    let order = Order::try_from(5)?;
     for a in 0i64..32 {
         for b in 0i64..32 {
-            check_all_ways(&rt, order, a, b)?;
+            check_all_ways(&rt, 5, a, b)?;
         }
     }
     Ok(())
@@ -68,12 +72,11 @@ fn every_pair_of_order_five(rt: HostRuntime) -> Result<(), Fail> {
 #[test]
 fn edges_of_every_order(rt: HostRuntime) -> Result<(), Fail> {
     for n in 1u8..=56 {
-        let order = Order::try_from(i64::from(n))?;
         let top = 1i64 << n;
         let most = top.wrapping_sub(1);
         for a in [0, 1, most / 2, top / 2, most.wrapping_sub(1), most] {
             for b in [1, top / 2, most.wrapping_sub(1), most] {
-                check_all_ways(&rt, order, a, b)?;
+                check_all_ways(&rt, i64::from(n), a, b)?;
             }
         }
     }
@@ -82,16 +85,15 @@ fn edges_of_every_order(rt: HostRuntime) -> Result<(), Fail> {
 
 #[test]
 fn published_example(rt: HostRuntime) -> Result<(), Fail> {
-    check_all_ways(&rt, Order::try_from(21)?, 1759291, 1349639)
+    check_all_ways(&rt, 21, 1759291, 1349639)
 }
 
 // Powers of two against each other and against themselves.
 #[test]
 fn powers_of_two(rt: HostRuntime) -> Result<(), Fail> {
-    let order = Order::try_from(56)?;
     for i in 0u8..56 {
         for j in 0u8..=i {
-            check_all_ways(&rt, order, 1i64 << i, 1i64 << j)?;
+            check_all_ways(&rt, 56, 1i64 << i, 1i64 << j)?;
         }
     }
     Ok(())
@@ -107,7 +109,7 @@ fn scattered_pairs_of_every_order(rt: HostRuntime) -> Result<(), Fail> {
             for common in [1, 30] {
                 let a = (sequence.operand(order) / common).wrapping_mul(common);
                 let b = (sequence.operand(order) / common).wrapping_mul(common);
-                check_all_ways(&rt, order, a, b)?;
+                check_all_ways(&rt, n, a, b)?;
             }
         }
     }

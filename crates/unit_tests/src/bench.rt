@@ -2,8 +2,7 @@
 use crate::tried::{FILLING, IS_OVER, NOT_OVER, Outcome, Tried};
 use engine::engine::Engine;
 use frame::pair::write_pair;
-use frame::result::LONGEST;
-use rule::pair::AdmittedPair;
+use rule::pair::admitted;
 use std::process::Abort;
 use std::test::Fail;
 use unit::unit::{Followers, Unit};
@@ -50,12 +49,15 @@ impl<'a, R: Abort, E: Engine> Bench<'a, R, E> {
         }
     }
 
-    // Loads the frame of a pair.
-    pub fn load(&mut self, pair: AdmittedPair) -> Result<(), Fail> {
+    // Loads the frame of the pair a, b of this order: these numbers are what the pair holds, and what is read from its frame.
+    pub fn load(&mut self, order: i64, a: i64, b: i64) -> Result<(), Fail> {
+        let numbers = Outcome::Loaded(u16::try_from(order)?, a, b);
+        let pair = admitted(order, a, b)?;
+        assert_eq!(self.rt; Outcome::from(pair), numbers);
         let mut buffer = [0u8; 21];
         let length = write_pair(pair, &mut buffer)?;
         let frame = buffer.get(..length).ok_or("beyond the buffer")?;
-        assert_eq!(self.rt; self.unit.load(frame), Ok(pair));
+        assert_eq!(self.rt; Outcome::of(self.unit.load(frame)), numbers);
         Ok(())
     }
 
@@ -67,7 +69,7 @@ impl<'a, R: Abort, E: Engine> Bench<'a, R, E> {
         // Added up in the loop: each work is checked on the way, and the last one ends it.
         let mut sum = 0u64;
         for before in 0u64..226 {
-            self.check(Tried::Collect(LONGEST), NOT_OVER);
+            self.check(Tried::Collect(49), NOT_OVER);
             let budget = budget(before);
             let worked = self.unit.work(budget)?;
             assert!(self.rt; worked.done >= 1 && worked.done <= budget);

@@ -2,7 +2,6 @@
 use crate::bench::Bench;
 use crate::tried::{Outcome, RESULT, TOO_SHORT, Tried};
 use engine::word::WordEngine;
-use rule::pair::admitted;
 use std::test::Fail;
 
 // The results of the pair 5, 2 at orders where a number takes one byte, two, and eight.
@@ -29,7 +28,7 @@ static RESULTS: [(i64, &[u8]); 4] = [
 fn buffers_of_every_length(rt: HostRuntime) -> Result<(), Fail> {
     let mut bench = Bench::over(&rt, WordEngine::new());
     for (order, result) in RESULTS {
-        bench.load(admitted(order, 5, 2)?)?;
+        bench.load(order, 5, 2)?;
         bench.check(Tried::Work(64), Outcome::Worked(4, true));
         for length in 0usize..=200 {
             let outcome = if length < result.len() {

@@ -11,8 +11,8 @@ use Rattle.script.specs.declared.parse.Entry.TheVariants.{Call as Answered, Wron
 
 -- ---- one line more
 
-adds_at : (p q : ℕ) → p ≡ q → (line : List ℕ) (calls calls' : List Call) (entries entries' : List Entry) → Adds p line calls entries calls' entries' → Adds q line calls entries calls' entries'
-adds_at p q e line calls calls' entries entries' h = subst (λ n. Adds n line calls entries calls' entries') e h
+pub adds_at : (p q : ℕ) (line : List ℕ) (calls calls' : List Call) (entries entries' : List Entry) → Adds p line calls entries calls' entries' → p ≡ q → Adds q line calls entries calls' entries'
+adds_at p q line calls calls' entries entries' h e = subst (λ n. Adds n line calls entries calls' entries') e h
 
 pub turns_more : (place : ℕ) (lines : List (List ℕ)) (line : List ℕ) (calls calls' calls'' : List Call) (entries entries' entries'' : List Entry)
     → AddInTurn place lines calls entries calls' entries' → Adds (place + length lines) line calls' entries' calls'' entries'' → AddInTurn place (lines ++ line ∷ []) calls entries calls'' entries''
@@ -20,7 +20,7 @@ turns_more place [] line calls calls' calls'' entries entries' entries'' h a = (
   calls'',
   entries'',
   subst (λ cs. Adds place line cs entries calls'' entries'') h.0
-      (subst (λ es. Adds place line calls' es calls'' entries'') h.1 (adds_at (place + 0) place (omega arith) line calls' calls'' entries' entries'' a)),
+      (subst (λ es. Adds place line calls' es calls'' entries'') h.1 (adds_at (place + 0) place line calls' calls'' entries' entries'' a (omega arith))),
   (refl, refl),
 )
 turns_more place (l ∷ ls) line calls calls' calls'' entries entries' entries'' h a = (
@@ -28,7 +28,7 @@ turns_more place (l ∷ ls) line calls calls' calls'' entries entries' entries''
   h.1,
   h.2,
   turns_more (suc place) ls line h.0 calls' calls'' h.1 entries' entries'' h.3
-      (adds_at (place + suc (length ls)) (suc place + length ls) (omega arith) line calls' calls'' entries' entries'' a),
+      (adds_at (place + suc (length ls)) (suc place + length ls) line calls' calls'' entries' entries'' a (omega arith)),
 )
 
 -- ---- the texts of calls

@@ -3,7 +3,7 @@ use Rattle.std.proofs.lemmas.List.{length-map, map-append}
 use Rattle.std.proofs.lemmas.Iterator.Consumers.{YieldsList-end, YieldsList-turn}
 use Rattle.script.specs.Scripts.{Adds, AddInTurn}
 use Rattle.script.proofs.Numbered.{index_is, lines_given, script_of}
-use Rattle.script.proofs.Turns.{texts_in_turn, turns_more}
+use Rattle.script.proofs.Turns.{adds_at, texts_in_turn, turns_more}
 use Rattle.script.proofs.parse.parse.Goals as goal
 
 pub loop-index-preserved : goal.loop-index-preserved
@@ -15,10 +15,9 @@ loop-index-preserved c =
     let so_far = map (λ x. x.1.now) c.loop-index.yielded in
     let calls = c.loop-index.script.calls.items in
     let entries = c.loop-index.script.entries.items in
-    let place : c.in-Some.index + 1 ≡ 1 + length so_far = omega (arith, index_is _ _ _ turn, length-map c.loop-index.yielded (λ x. x.1.now)) in
     subst (λ ls. AddInTurn 1 ls [] [] c.add.new.self.calls.items c.add.new.self.entries.items) (sym (map-append (λ x. x.1.now) c.loop-index.yielded ((c.in-Some.index, c.in-Some.line) ∷ [])))
     (turns_more 1 so_far c.in-Some.line.now [] calls c.add.new.self.calls.items [] entries c.add.new.self.entries.items c.loop-index.invariant
-    (subst (λ n. Adds n c.in-Some.line.now calls entries c.add.new.self.calls.items c.add.new.self.entries.items) place c.in_ok-add.ensures))
+    (adds_at _ (1 + length so_far) c.in-Some.line.now calls _ entries _ c.in_ok-add.ensures (omega (arith, index_is _ _ _ turn, length-map c.loop-index.yielded (λ x. x.1.now)))))
 
 pub returns-clause-lines : goal.returns-clause-lines
 returns-clause-lines c =

@@ -1,11 +1,9 @@
 -- Bytes of whole numbers: one byte more, how many there are, and the way back.
-use Rattle.std.proofs.Common.{◌≡◌, ℕ, zero, suc, ◌+◌, ◌-◌, ◌*◌, ◌/◌, ◌%◌, ◌^◌, ◌<◌, ◌≤◌, List, [], ◌∷◌, ◌++◌, length, get_or, take, drop, ℤ, pos, negsuc, ◌-ℤ◌, neg_ℤ, ◌≤ℤ◌, ◌<ℤ◌, sym, refl, ap, ◌∙◌, ap₂, ⊎_elim, mul_comm, add-one, arith, w64, of_z, SFits, pow_mono, pow-add}
+use Rattle.std.proofs.Common.{◌≡◌, ℕ, zero, suc, ◌+◌, ◌-◌, ◌*◌, ◌^◌, ◌<◌, ◌≤◌, List, [], ◌∷◌, ◌++◌, length, get_or, take, drop, set, ℤ, pos, negsuc, ◌-ℤ◌, neg_ℤ, ◌≤ℤ◌, ◌<ℤ◌, sym, refl, ap, ◌∙◌, ap₂, ⊎_elim, mul_comm, add-one, arith, pow_mono, pow-add}
 use lib.Signed.{shr_z, mag}
-use Rattle.std.specs.Int.{byte_at, bytes_high_first, to_be_bytes}
-use Rattle.std.proofs.Math.Nat.{div-div-eq-div-mul, pow-succ'}
 use Rattle.std.specs.List.{AllByRecursion}
 use Rattle.std.proofs.lemmas.Int.{ints}
-use Rattle.std.proofs.lemmas.List.{take_rest, append-nil, append_assoc, length_push}
+use Rattle.std.proofs.lemmas.List.{take_rest, append-nil, append_assoc, drop-set, drop_all, length_push}
 use Rattle.std.proofs.lemmas.Bool.{lt-ltb, le-ltb, cases_lt}
 use Rattle.frame.specs.Numbers.{low_byte, signed_bytes, sign_byte, appended, signed_from, signed_value}
 
@@ -105,44 +103,14 @@ bytes_of_value (x ∷ xs) h =
     let e : suc (length xs) ≡ length xs + 1 = omega arith in
     ap (λ m. signed_bytes m (signed_from (sign_byte x) xs)) e ∙ bytes_from 1 (sign_byte x) xs h.1 ∙ ap (λ b. b ∷ xs) (low_sign x h.0)
 
--- ---- the bytes that a machine holds of a number
-byte_up : (k n : ℕ) → byte_at (suc k) n ≡ byte_at k (n / 256)
-byte_up zero n = refl
-byte_up (suc k) n = ap (λ d. d % 256) (ap (λ m. n / m) (pow-succ' 256 (suc k)) ∙ sym (div-div-eq-div-mul n 256 (256 ^ suc k)))
-
-bytes_high_first-push : (k n : ℕ) → bytes_high_first (suc k) n ≡ bytes_high_first k (n / 256) ++ n % 256 ∷ []
-bytes_high_first-push zero n = refl
-bytes_high_first-push (suc k) n = ap₂ (λ (b : ℕ) (bs : List ℕ). b ∷ bs) (byte_up k n) (bytes_high_first-push k n)
-
-drop-bytes_high_first : (m k n : ℕ) → k ≤ m → drop (m - k) (bytes_high_first m n) ≡ bytes_high_first k n
-drop-bytes_high_first zero zero n h = refl
-drop-bytes_high_first zero (suc k) n h = absurd (omega arith)
-drop-bytes_high_first (suc m) k n h =
-    let bs = bytes_high_first (suc m) n in
-    ⊎_elim
-    (λ l. let e : k ≡ suc m = omega arith in let z : suc m - k ≡ 0 = omega arith in ap (λ i. drop i bs) z ∙ ap (λ j. bytes_high_first j n) (sym e))
-    (λ l. let s : suc m - k ≡ suc (m - k) = omega arith in ap (λ i. drop i bs) s ∙ drop-bytes_high_first m k n l)
-    (cases_lt m k)
-
-bytes_of_pos : (k n : ℕ) → bytes_high_first k n ≡ signed_bytes k (pos n)
+-- ---- a number, written from its last byte to its first
+pub byte_more : (xs : List ℕ) (j x : ℕ) (z : ℤ) → x ≡ low_byte z → j < length xs → signed_bytes j (shr_z z 256) ++ drop j (set xs j x) ≡ signed_bytes (suc j) z ++ drop (suc j) xs
 unfolding signed_bytes
-bytes_of_pos zero n = refl
-bytes_of_pos (suc k) n = bytes_high_first-push k n ∙ ap (λ (bs : List ℕ). bs ++ n % 256 ∷ []) (bytes_of_pos k (n / 256))
+byte_more xs j x z e h =
+    let s : j + 1 ≡ suc j = omega arith in
+    ap (λ l. signed_bytes j (shr_z z 256) ++ l) (drop-set xs j x h ∙ ap₂ (λ (b m : ℕ). b ∷ drop m xs) e s) ∙ sym (append_assoc (signed_bytes j (shr_z z 256)) (low_byte z ∷ []) (drop (suc j) xs))
 
--- n is what is left of 256^m after a + 1
-bytes_of_negsuc : (k m n a : ℕ) → k ≤ m → n + suc a ≡ 256 ^ m → bytes_high_first k n ≡ signed_bytes k (negsuc a)
+pub bytes_all : (xs before : List ℕ) (i : ℕ) (z y : ℤ) → i ≡ 0 → signed_bytes i z ++ drop i xs ≡ signed_bytes (length before) y ++ drop (length before) before → xs ≡ signed_bytes (length before) y
 unfolding signed_bytes
-bytes_of_negsuc zero m n a h e = refl
-bytes_of_negsuc (suc k) zero n a h e = absurd (omega arith)
-bytes_of_negsuc (suc k) (suc m) n a h e =
-    let p = pow-succ' 256 m in
-    let low : n % 256 ≡ low_byte (negsuc a) = omega (arith, ints) in
-    bytes_high_first-push k n ∙ ap₂ (λ (bs : List ℕ) (b : ℕ). bs ++ b ∷ []) (bytes_of_negsuc k m (n / 256) (a / 256) (omega arith) (omega arith)) low
-
-last_of : (k : ℕ) (z : ℤ) → k ≤ 8 → SFits w64 z → drop (8 - k) (to_be_bytes w64 (of_z w64 z)) ≡ signed_bytes k z
-last_of k (pos n) h f = drop-bytes_high_first 8 k n h ∙ bytes_of_pos k n
-last_of k (negsuc a) h f = drop-bytes_high_first 8 k _ h ∙ bytes_of_negsuc k 8 _ a h (omega arith)
-
--- the last k of the eight bytes of z
-pub last_bytes : (k : ℕ) (z : ℤ) (all bytes : List ℕ) → bytes ≡ take (8 - (8 - k)) (drop (8 - k) all) → all ≡ to_be_bytes w64 (of_z w64 z) → k ≤ 8 → SFits w64 z → bytes ≡ signed_bytes k z
-last_bytes k z all bytes e h l f = e ∙ ap (λ bs. take (8 - (8 - k)) (drop (8 - k) bs)) h ∙ take_rest (to_be_bytes w64 (of_z w64 z)) (8 - k) ∙ last_of k z l f
+bytes_all xs before zero z y n e = e ∙ ap (λ l. signed_bytes (length before) y ++ l) (drop_all (length before) before (omega arith)) ∙ append-nil (signed_bytes (length before) y)
+bytes_all xs before (suc i) z y n e = absurd (omega arith)

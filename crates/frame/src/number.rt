@@ -1,6 +1,7 @@
 // Numbers as bytes, the most significant byte first; negative ones in two's complement.
 ghost use Rattle.std.specs.Prelude.{◌≡◌, ◌^◌, ◌≤◌, length, pos, neg_ℤ, ◌≤ℤ◌, ◌<ℤ◌};
-ghost use Rattle.frame.specs.Numbers.{appended, sign_byte, signed_bytes, signed_value};
+ghost use Rattle.std.specs.Int.Signed.{shr_z};
+ghost use Rattle.frame.specs.Numbers.{appended, low_byte, sign_byte, signed_bytes, signed_value};
 
 // A first byte, of which the highest bit is the sign.
 fn sign_byte(x: u8) -> i64
@@ -33,10 +34,27 @@ pub fn signed(bytes: &[u8]) -> i64
     value
 }
 
-// Writes a number into as many bytes as there are.
+// What a number leaves when divided by 256.
+fn low_byte(z: i64) -> u8
+    ensures { result ≡ low_byte z }
+{
+    z.rem_euclid(256) as u8
+}
+
+// A number without its low byte.
+fn without_low_byte(z: i64) -> i64
+    ensures { result ≡ shr_z z 256 }
+{
+    z >> 8
+}
+
+// Writes a number into as many bytes as there are, from the last to the first.
 pub fn put_signed(part: &mut [u8], z: i64)
-    requires { length part.old ≤ 8 }
     ensures { part.new ≡ signed_bytes (length part.old) z }
 {
-    part.copy_from_slice(&z.to_be_bytes()[8 - part.len()..]);
+    let mut rest = z;
+    for i in (0..part.len()).rev() {
+        part[i] = low_byte(rest);
+        rest = without_low_byte(rest);
+    }
 }

@@ -1,7 +1,7 @@
-use Rattle.std.proofs.Common.{◌≡◌, ◌+◌, [], ◌∷◌, map, length, refl, sym, subst, arith}
+use Rattle.std.proofs.Common.{◌+◌, [], ◌∷◌, map, length, refl, sym, subst, arith}
 use Rattle.std.proofs.lemmas.List.{length-map, map-append}
 use Rattle.std.proofs.lemmas.Iterator.Consumers.{YieldsList-end, YieldsList-turn}
-use Rattle.script.specs.Scripts.{Adds, AddInTurn}
+use Rattle.script.specs.Scripts.{AddInTurn}
 use Rattle.script.proofs.Numbered.{index_is, lines_given, script_of}
 use Rattle.script.proofs.Turns.{adds_at, texts_in_turn, turns_more}
 use Rattle.script.proofs.parse.parse.Goals as goal

@@ -33,12 +33,15 @@ pub trait Table: Copy {
     fn start(pair: AdmittedPair) -> Self
         ensures { rows result ≡ first pair };
 
-    // A call of its own, since it is asked before each command: a table that takes all of them need not be turned to tell.
-    fn takes(self, command: Command) -> bool
-        ensures { result ≡ accepts (rows self) command };
-
     fn turned(self, command: Command) -> Option<Self>
         ensures { Settled rows (accepts (rows self) command) (turns (rows self) command) result };
+
+    // A call of its own, since it is asked before each command: a table that takes all of them need not be turned to tell.
+    fn takes(self, command: Command) -> bool
+        ensures { result ≡ accepts (rows self) command }
+    {
+        self.turned(command).is_some()
+    }
 
     // Told the commands of the run of its pair, it takes each and stays in its relation.
     ghost follows: { Follows first accepts turns relation };

@@ -50,6 +50,10 @@ unfolding hex_text
 hex_text-append [] cs = refl
 hex_text-append (b ∷ bs) cs = ap (λ l. digit_char (b / 16) ∷ digit_char (b % 16) ∷ l) (hex_text-append bs cs)
 
+-- the text of one byte more
+pub text_more : (bs : List ℕ) (i : ℕ) → i < length bs → hex_text (take i bs) ++ digit_char (get_or bs i 0 / 16) ∷ digit_char (get_or bs i 0 % 16) ∷ [] ≡ hex_text (take (i + 1) bs)
+text_more bs i h = sym (hex_text-push (take i bs) (get_or bs i 0)) ∙ ap hex_text (sym (take_more bs i 0 h))
+
 -- ---- digits in the room for them
 
 -- two digits more, at their places
@@ -60,8 +64,7 @@ digits_more room bs i high low space within before eh el =
     ∙ ap (λ l. l ++ low ∷ []) (take_more_set room (2 * i) high (omega (arith, space)))
     ∙ append_assoc (take (2 * i) room) (high ∷ []) (low ∷ [])
     ∙ ap₂ (λ l r. l ++ r) before (ap₂ (λ c d. c ∷ d ∷ []) eh el)
-    ∙ sym (hex_text-push (take i bs) (get_or bs i 0))
-    ∙ ap hex_text (sym (take_more bs i 0 within))
+    ∙ text_more bs i within
 
 -- as many digits as there are bytes for
 pub digits_all : (room bs : List ℕ) (i : ℕ) → length bs ≤ i → i ≤ length bs → take (2 * i) room ≡ hex_text (take i bs) → take (2 * length bs) room ≡ hex_text bs

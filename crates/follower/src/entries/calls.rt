@@ -147,10 +147,6 @@ impl Table for Entries {
         }
     }
 
-    fn takes(self, command: Command) -> bool {
-        self.turned(command).is_some()
-    }
-
     fn turned(self, command: Command) -> Option<Entries> {
         match command {
             Command::Both => self.halved_if_even(),
